@@ -1,8 +1,8 @@
 //! Items for the cells of shaped ranges: their entries, in the order in which the text first names
-//! them, and what writing asks of each cell.
+//! them, and what writing needs to know of each cell.
 //!
 //! `give_items` gives both. `specs/item_table/Tables.antt` is the table of cells that the theory of
-//! control asks for; its items are those of `specs/item_table/Owners.antt`, named by
+//! control requires; its items are those of `specs/item_table/Owners.antt`, named by
 //! `specs/item_table/Naming.antt`.
 
 mod assignment;

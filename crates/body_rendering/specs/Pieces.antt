@@ -25,16 +25,19 @@ AddsWords cells stmts old new = EachWay cells
     (λ way. seen_stmts 0 new ≡ followed (seen_stmts 0 old) (all_written way stmts))
 
 module _ (cells : List CellItem) (places : List ProcedurePlace) where
-  -- of each way with these items and places
+  -- it holds of each way with these items and places
   abbrev pub Each : (Way → Type 0) → Type 0
   Each Holds = (way : Way) → AreItems way cells → ArePlaced way.place places → Holds way
 
+  -- the statement is what is written of this one
   abbrev pub IsMade : language.Stmt → Stmt → Type 0
   IsMade stmt made = Each (λ way. seen 0 made ≡ written way stmt)
 
+  -- the statements are what is written of these
   abbrev pub AreMade : Stmts → List Stmt → Type 0
   AreMade stmts made = Each (λ way. seen_stmts 0 made ≡ all_written way stmts)
 
+  -- what is written of these statements is added
   abbrev pub AddsStmts : Stmts → (old new : List Stmt) → Type 0
   AddsStmts stmts old new =
       Each (λ way. seen_stmts 0 new ≡ followed (seen_stmts 0 old) (all_written way stmts))
@@ -45,12 +48,15 @@ module _ (cells : List CellItem) (places : List ProcedurePlace) where
       Each (λ way. map (seen_stmts 0) new
       ≡ map (seen_stmts 0) old ++ map (all_written way) (map stmts_in arms))
 
+-- the statements of an arm
 abbrev pub within_arm : Tree → Stmts
 within_arm arm = arm_stmts (seen_tree arm)
 
+-- the statements of a tree within a loop
 abbrev pub within_loop : Leaves → Tree → Stmts
 within_loop leaves tree = stated leaves (seen_tree tree)
 
+-- the statements of an end within a loop
 abbrev pub end_stmts : Leaves → End → Stmts
 end_stmts leaves end =
     stated_end none_left_out (jump_within leaves) (return_within leaves) (seen_end end)

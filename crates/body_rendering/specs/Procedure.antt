@@ -12,6 +12,7 @@ use Rattle.statement_builders.specs.declared.arms.placing.ProcedurePlace.{Proced
 use Rattle.statement_builders.specs.declared.item_words.cells.CellItem.{CellItem}
 use Rattle.body_rendering.specs.Pieces.{Each}
 
+-- the end stops the run
 abbrev pub stops : End → Bool
 stops Stop = true
 stops (Pick picker arms) = false
@@ -19,18 +20,21 @@ stops (Jump to) = false
 stops Return = false
 stops Dead = false
 
--- STOP RUN behind the body, where it stands there
+-- the statements of a procedure: its body, and STOP RUN after it where that is written
 abbrev pub closed_stmts : (main : Bool) → Tree → Stmts
 closed_stmts main whole =
     followed (body_of whole) (if main || stops (end_of whole) then alone StopRun else none)
 
+-- the sentence has these statements, or CONTINUE where there are none
 abbrev pub IsSentence : Stmts → Sentence → Type 0
 IsSentence stmts made = seen_sentence 0 made ≡ required Continue stmts
 
+-- the range is main
 abbrev pub is_main : Range → Bool
 is_main Main = true
 is_main (Part entry exit) = false
 
+-- the procedure of a range, by the one tree that it was shaped to
 abbrev pub procedure_of : Range → Tree → Procedure
 procedure_of range whole = record { range = range; body = body_of whole; end = end_of whole }
 

@@ -1,5 +1,5 @@
-//! What stands for the leaves of a tree: within a loop a number for its cell, within a statement
-//! STOP RUN alone.
+//! What is written for the leaves of a tree: within a loop a number for its cell, within a
+//! statement STOP RUN alone.
 
 ghost use Rattle.std.specs.Prelude.{suc, ◌≡◌, if◌then◌else◌, OnOk};
 ghost use Rattle.cob_base.specs.Answers.{Makes};
@@ -17,7 +17,7 @@ use statement_builders::item_words::{CellItem, set_cell};
 use std::alloc::Global;
 
 /// The number of a label among labels, by whether it is the first, and by its number among those
-/// behind that.
+/// after the first.
 fn further(is_first: bool, number: u32) -> Result<u32, NoMemory>
     ensures { Makes (if is_first then 1 else one_further number) result }
 {
@@ -109,7 +109,7 @@ pub fn add_jump(
     }
 }
 
-/// Adds what is set behind the last target.
+/// Adds what is set to the number after the last target.
 fn add_past(
     alloc: Global,
     made: &mut Items<Stmt>,
@@ -152,7 +152,7 @@ pub fn add_stop(made: &mut Items<Stmt>) -> Result<(), NoMemory>
     made.push(Stmt::StopRun)
 }
 
-/// Adds what stands for the leaf of an arm.
+/// Adds what is written for the leaf of an arm.
 pub fn add_last(made: &mut Items<Stmt>, end: &End) -> Result<(), NoMemory>
     ensures { OnOk result
         (seen_stmts 0 made.new ≡ followed (seen_stmts 0 made.old) (last_stmts (seen_end end.now))) }

@@ -19,7 +19,7 @@ use statement_builders::item_words::{
 use std::alloc::Global;
 use std::mem;
 
-/// Takes the piece out of its place.
+/// Writes a piece, which is taken out of its place.
 #[cycle(write)]
 fn write_piece(
     alloc: Global,
@@ -206,7 +206,7 @@ fn write_turns(
     made
 }
 
-/// Takes the end out of its place.
+/// Adds what is written for an end, which is taken out of its place.
 #[cycle(write)]
 fn add_end(
     alloc: Global,
@@ -300,10 +300,10 @@ fn add_stated_arms(
     Ok(())
 }
 
-/// Lets a tree go.
+/// Drops a tree.
 pub fn drop_tree(_tree: Tree) {}
 
-/// The statements of a body, added behind others.
+/// Adds the statements of a body after others.
 pub fn add_body(
     alloc: Global,
     made: &mut Items<Stmt>,

@@ -63,7 +63,7 @@ fn sentence_of(stmts: Items<Stmt>) -> Result<Sentence, NoMemory>
 }
 
 /// The sentence of main, which ends in STOP RUN, or of another procedure, which does so where its
-/// end is Stop. Err where memory is wanted, where a range that is performed has no place or a cell
+/// end is Stop. Err where memory runs out, where a range that is performed has no place or a cell
 /// no item, and where a number or a choice doesn't fit its item.
 pub fn write_procedure(
     alloc: Global,

@@ -24,20 +24,23 @@ jump_within (leaves.Flag cell label) to = flag_jump cell label to
 jump_within (leaves.Exit cell label targets) to = exit_jump cell label targets to
 jump_within (leaves.State cell labels) to = state_jump cell labels to
 
--- a return within a loop
+-- the statements that stand for a return within a loop
 abbrev pub return_within : Leaves → Stmts
 return_within leaves.Silent = none
 return_within (leaves.Flag cell label) = set_to cell 1
 return_within (leaves.Exit cell label targets) = set_to cell (suc (length_of targets))
 return_within (leaves.State cell labels) = set_to cell 0
 
+-- the statements that a tree is within a loop
 abbrev pub stated : Leaves → graph.Tree → Stmts
 stated leaves body = stated_tree none_left_out (jump_within leaves) (return_within leaves) body
 
+-- a list of trees
 abbrev pub trees_of : List graph.Tree → graph.Trees
 trees_of [] = graph.no_more
 trees_of (t ∷ ts) = graph.more t (trees_of ts)
 
+-- one level of a piece of a body
 abbrev pub piece_step : Piece-F graph.End language.Stmt graph.Tree → language.Stmt
 piece_step (Piece-F.Own stmt) = seen 0 stmt
 piece_step (Piece-F.Set cell value) = Do (Set cell value)
@@ -47,9 +50,11 @@ piece_step (Piece-F.Choose by arms) = Choose (seen_picker by) (arms_stmts (trees
 piece_step (Piece-F.Loop after turned test leaves body) =
     Loop (Until after (turned_test turned (seen_test test))) (Nested (stated leaves body))
 
+-- one level of a tree
 abbrev pub tree_step : Tree-F graph.End language.Stmt graph.Tree → graph.Tree
 tree_step t = graph.tree (stmts_of t.body.items) t.end
 
+-- one level of an end
 abbrev pub end_step : End-F graph.End language.Stmt graph.Tree → graph.End
 end_step (End-F.Pick by arms) = graph.Pick (seen_picker by) (trees_of arms)
 end_step (End-F.Jump to) = graph.Jump to
@@ -57,17 +62,22 @@ end_step End-F.Return = graph.Return
 end_step End-F.Stop = graph.Stop
 end_step End-F.Dead = graph.Dead
 
+-- a piece of a body
 abbrev pub seen_piece : Piece → language.Stmt
 seen_piece = fold-Piece graph.End language.Stmt graph.Tree end_step piece_step tree_step
 
+-- a tree
 abbrev pub seen_tree : Tree → graph.Tree
 seen_tree = fold-Tree graph.End language.Stmt graph.Tree end_step piece_step tree_step
 
+-- the end of a tree
 abbrev pub seen_end : End → graph.End
 seen_end = fold-End graph.End language.Stmt graph.Tree end_step piece_step tree_step
 
+-- the body of a tree
 abbrev pub seen_body : List Piece → Stmts
 seen_body pieces = stmts_of (map seen_piece pieces)
 
+-- the trees of a choice
 abbrev pub seen_trees : List Tree → graph.Trees
 seen_trees trees = trees_of (map seen_tree trees)

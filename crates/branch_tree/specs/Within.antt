@@ -7,6 +7,7 @@ use Rattle.control_flow_theory.specs.structuring.Dispatches.{stated_end, stated_
 use Rattle.branch_tree.specs.declared.tree.Leaves.{Leaves}
 use Rattle.branch_tree.specs.Tree.{jump_within, return_within}
 
+-- the statements that an end is within a loop
 abbrev pub end_within : Leaves → End → Stmts
 end_within leaves end = stated_end none_left_out (jump_within leaves) (return_within leaves) end
 

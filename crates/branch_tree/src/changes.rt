@@ -1,4 +1,4 @@
-//! Changes of trees, in which something is dropped, and what lets parts of graphs go.
+//! Changes of trees that drop something, and functions that drop parts of graphs.
 
 ghost use Rattle.std.specs.Prelude.{◌≡◌, ◌+◌, ◌≤◌, ◌++◌, IfNone, IfSome};
 ghost use Rattle.std.specs.VecDeque.{deque_len, deque_capacity};
@@ -11,7 +11,7 @@ use cob_base::Items;
 use std::collections::VecDeque;
 use std::mem;
 
-/// Puts the pieces of the first body before the other's, and leaves none there.
+/// Moves the pieces of the first body before the other's.
 fn move_before(first: &mut VecDeque<Piece>, body: &mut VecDeque<Piece>)
     requires { deque_len first.old + deque_len body.old ≤ deque_capacity body.old }
     ensures { body.new.items ≡ first.old.items ++ body.old.items }
@@ -21,8 +21,8 @@ fn move_before(first: &mut VecDeque<Piece>, body: &mut VecDeque<Piece>)
     }
 }
 
-/// Puts the other body behind the first: the shorter one moves. Without memory it comes back, and
-/// the first one stays.
+/// Joins the other body to the end of the first: the shorter one moves. Without memory the other
+/// one is given back, and the first one stays.
 fn join_bodies(first: &mut VecDeque<Piece>, other: VecDeque<Piece>) -> Option<VecDeque<Piece>>
     ensures joined { IfNone result (first.new.items ≡ first.old.items ++ other.items) }
     ensures stays { IfSome result (λ back. first.new.items ≡ first.old.items) }
@@ -57,8 +57,8 @@ impl Tree {
         self.end = end;
     }
 
-    /// Puts the other tree in the place of this one's end: the shorter body moves. Without memory it
-    /// comes back, and this one stays.
+    /// Replaces this tree's end by the other tree: the shorter body moves. Without memory the other
+    /// one is given back, and this one stays.
     pub fn append_tree(&mut self, by: Tree) -> Option<Tree>
         ensures { GoesOn result (seen_tree by) (seen_tree self.old) (seen_tree self.new) }
     {
@@ -73,17 +73,17 @@ impl Tree {
     }
 }
 
-/// Lets trees go.
+/// Drops trees.
 pub fn drop_trees(_trees: Items<Tree>) {}
 
-/// Lets pieces go.
+/// Drops pieces.
 pub fn drop_pieces(_pieces: Vec<Piece>) {}
 
-/// Lets a body go.
+/// Drops a body.
 pub fn drop_body(_body: VecDeque<Piece>) {}
 
-/// Lets a tree go.
+/// Drops a tree.
 pub fn drop_tree(_tree: Tree) {}
 
-/// Lets nodes go.
+/// Drops nodes.
 pub fn drop_nodes(_nodes: Vec<Node>) {}

@@ -1,4 +1,4 @@
-//! What trees choose and loops test by.
+//! What trees choose by, and loops are tested by.
 
 use cob_base::Items;
 use cob_tree::{Calc, Cond, Place, Subject, Target, Test as WhenTest};
@@ -13,7 +13,7 @@ pub enum Test {
     Above { cell: u32 },
 }
 
-/// What chooses an arm in the program, but for a condition.
+/// What chooses an arm in the program, other than a condition.
 #[derive(Drop)]
 pub enum Chooser {
     /// EVALUATE: one arm for each list of tests, and one for WHEN OTHER.

@@ -21,12 +21,12 @@ pub enum Added {
     Count,
     /// The node that a dispatch goes on with.
     State,
-    /// The exit that a loop leaves by.
+    /// The exit by which a loop is left.
     Exit,
 }
 
-/// The graph of a range: its nodes in rising label order, and its added items in the order in which
-/// they were made.
+/// The graph of a range: its nodes in ascending label order, and its added items in the order in
+/// which they were made.
 #[derive(Drop)]
 pub struct Graph {
     pub entry: Label,

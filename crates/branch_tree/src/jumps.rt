@@ -46,7 +46,7 @@ fn one_jumps(arms: &[Tree], label: Label) -> bool
 }
 
 impl Tree {
-    /// How many leaves of the tree jump to the label; past the last number of the type that number.
+    /// How many leaves of the tree jump to the label, at most the largest `u32`.
     pub fn leaves_to(&self, label: Label) -> u32
         ensures { result ≡ min (leaves_to label (seen_tree self.now)) (2 ^ 32 - 1) }
     {
@@ -79,8 +79,7 @@ fn arms_leaves(arms: &[Tree], label: Label) -> u32
 }
 
 impl Graph {
-    /// How many leaves of the graph jump to the label; past the last number of the type that
-    /// number.
+    /// How many leaves of the graph jump to the label, at most the largest `u32`.
     pub fn leaves_to(&self, label: Label) -> u32
         ensures { result ≡ min (all_leaves_to label (seen_nodes self.now.nodes.items))
             (2 ^ 32 - 1) }

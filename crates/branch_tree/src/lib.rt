@@ -1,6 +1,6 @@
-//! Graphs of trees, as code: the points of a program, the trees that stand there, and what they
-//! choose by. A body holds statements without a jump; each tree ends in a choice, a jump, a return,
-//! a stop, or dead.
+//! Graphs of trees, as code: the points of a program, the trees at them, and what these choose by.
+//! A body holds statements without a jump; each tree ends in a choice, a jump, a return, a stop, or
+//! dead.
 //!
 //! Contracts see a tree as the tree of the theory of control (`specs/Tree.antt`). The crate
 //! `graph_rewriting` holds a graph while the rules rewrite it.

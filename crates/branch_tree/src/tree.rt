@@ -6,10 +6,10 @@ use cob_base::Items;
 use cob_tree::{Operand, Stmt};
 use std::collections::VecDeque;
 
-/// What the live leaves of a tree are where it stands within a loop.
+/// What the live leaves of a tree do within a loop.
 #[derive(Drop)]
 pub enum Leaves {
-    /// They are nothing.
+    /// They do nothing.
     Silent,
     /// A jump to the label goes on; any other sets the cell to 1, and so does a return.
     Flag {
@@ -17,7 +17,7 @@ pub enum Leaves {
         label: Label,
     },
     /// A jump to the label goes on; any other sets the cell to the number of its target, from 1,
-    /// and a return to the number behind the last one.
+    /// and a return to the number after the last one.
     Exit {
         cell: u32,
         label: Label,
@@ -34,7 +34,7 @@ pub enum Leaves {
 #[cycle(tree)]
 #[derive(Drop)]
 pub enum Piece {
-    /// A statement of the program, in which no jump stands.
+    /// A statement of the program, which holds no jump.
     Own(Stmt),
     /// MOVE the value TO the cell.
     Set {
@@ -55,7 +55,8 @@ pub enum Piece {
         by: Picker,
         arms: Items<Tree>,
     },
-    /// PERFORM UNTIL the test, or UNTIL NOT it where it is turned, of a tree with such leaves.
+    /// PERFORM UNTIL the test, or UNTIL NOT the test where it is turned, of a tree with such
+    /// leaves.
     Loop {
         after: bool,
         turned: bool,
@@ -65,7 +66,7 @@ pub enum Piece {
     },
 }
 
-/// Pieces, and then an end. A body grows at both ends, as trees are put into one another.
+/// Pieces, and then an end. A body grows at both ends, as trees take the place of jumps.
 #[cycle(tree)]
 #[derive(Drop)]
 pub struct Tree {
@@ -73,7 +74,7 @@ pub struct Tree {
     pub end: End,
 }
 
-/// What stands at the end of a tree.
+/// The end of a tree.
 #[cycle(tree)]
 #[derive(Drop)]
 pub enum End {

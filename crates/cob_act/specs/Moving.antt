@@ -7,6 +7,7 @@ use Rattle.meanings.specs.statements.Moving as moves
 use Rattle.cob_act.specs.declared.moving.Sender.{Sender}
 use Rattle.cob_act.specs.declared.moving.Sender.TheVariants.{Figured, Grouped, Spelled, Written, Counted}
 
+-- a sender, as the meaning has it
 abbrev pub seen_sender : Sender → moves.Sender
 seen_sender (Figured figure) = moves.Figured figure
 seen_sender (Grouped bytes) = moves.Grouped bytes.now
@@ -14,6 +15,7 @@ seen_sender (Spelled bytes) = moves.Spelled bytes.now
 seen_sender (Written number) = moves.Written number.now
 seen_sender (Counted bytes digits number) = moves.Counted bytes.now digits number
 
+-- a sender, or the end of the run, as the meaning has it
 abbrev pub seen_sent : Answer Sender → Answer moves.Sender
 seen_sent (Ok sender) = Ok (seen_sender sender)
 seen_sent (Err abend) = Err abend

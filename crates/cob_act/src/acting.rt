@@ -1,6 +1,6 @@
 //! Statements that need no device.
 
-ghost use Rattle.std.specs.Prelude.{◌≡◌, ℕ, List, [], IfOk, IsTrue};
+ghost use Rattle.std.specs.Prelude.{◌≡◌, ℕ, List, [], IfErr, IfOk, IsTrue};
 ghost use Rattle.file_model.specs.World.{World};
 ghost use Rattle.meanings.specs.statements.Does.{chooses, declared_with, does, has_arms, of_moves, of_sum, shows};
 ghost use Rattle.cob_act.specs.Acting.{effect_by, is_inner};
@@ -62,7 +62,8 @@ pub fn has_arms(arms: &Arms) -> bool
     arms.first.is_some() || arms.second.is_some()
 }
 
-// With a SIZE phrase the first arm is taken where a receiver had a size error, and else the second.
+// With a SIZE phrase the first arm is taken where a receiver had a size error, otherwise the
+// second.
 fn of_sum(guarded: bool, answer: Result<bool, Abend>) -> ActOutcome
     ensures { (world : World) → (store : List (List ℕ)) → (shown : List ℕ) →
         effect_by world store shown result ≡ of_sum guarded store answer }
@@ -81,7 +82,8 @@ fn of_sum(guarded: bool, answer: Result<bool, Abend>) -> ActOutcome
     }
 }
 
-/// Does a statement that needs no device. Bytes that are shown are put into `shown`.
+/// Does a statement that needs no device. The bytes that it shows are put into `shown`, which must
+/// be empty; `scratch` is room for what MOVE copies. Without memory the store stays.
 pub fn act(
     program: &Program,
     areas: &Areas,
@@ -92,8 +94,9 @@ pub fn act(
 ) -> Result<ActOutcome, NoMemory>
     requires inner { IsTrue (is_inner stmt.now) }
     requires empty { shown.old ≡ [] }
-    ensures { IfOk result (λ done. (world : World) → effect_by world store.new shown.new done
+    ensures does { IfOk result (λ done. (world : World) → effect_by world store.new shown.new done
         ≡ does (declared_with program.now areas.now) stmt.now store.old world) }
+    ensures kept { IfErr result (λ e. store.new ≡ store.old) }
 {
     let entries = program.entries.as_slice();
     let areas = areas.items.as_slice();

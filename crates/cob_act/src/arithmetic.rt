@@ -12,8 +12,8 @@ use cob_num::{Dec, Stored, add, mul, quotient, sub};
 use cob_store::{Area, Form, Spot, Store, expr_value, kept, number_at, operand_value, reached};
 use cob_tree::{Abend, Calc, Operand, Place, Sign, Target};
 
-/// What is worked out before the receivers: a value that each is given, or one that each is
-/// changed by.
+/// What is computed before the receivers: a value that each receiver gets, or one by which each is
+/// changed.
 #[derive(Clone, Copy)]
 pub enum Basis {
     Given(Option<Dec>),
@@ -45,7 +45,7 @@ fn product(a: Option<Dec>, b: Option<Dec>) -> Option<Dec>
     mul(a?, b?)
 }
 
-// To one decimal place more than the receiver has.
+// A quotient, with one decimal place more than the receiver has.
 fn divided(part: u8, a: Option<Dec>, b: Option<Dec>) -> Option<Dec>
     ensures { result ≡ both (divided part) a b }
 {
@@ -58,7 +58,7 @@ fn divided(part: u8, a: Option<Dec>, b: Option<Dec>) -> Option<Dec>
     }
 }
 
-// The sum from the left; every operand is read.
+// The sum of operands, from the left; every operand is read.
 fn summed(areas: &[Area], store: &Store, operands: &[Operand]) -> Result<Option<Dec>, Abend>
     ensures { result ≡ summed (memory_of areas.now store.now) operands.now }
 {
@@ -156,7 +156,8 @@ fn value_for(store: &Store, spot: Spot, form: Form, basis: Basis) -> Result<Opti
     }
 }
 
-// Whether the receiver had a size error; under a SIZE phrase it then stays.
+// Stores a value in a receiver, and says whether it had a size error; under a SIZE phrase it then
+// keeps its value.
 fn stored_in(
     store: &mut Store,
     guarded: bool,
@@ -181,7 +182,8 @@ fn stored_in(
     stored.size_error
 }
 
-// A receiver without a value stays, and had a size error.
+// Stores a value, where there is one; a receiver that gets none keeps its value, and had a size
+// error.
 fn given(
     store: &mut Store,
     guarded: bool,
@@ -242,7 +244,8 @@ fn targeted(
     targeted_at(areas, store, guarded, basis, &target.place, target.rounded)
 }
 
-/// ADD of one operand to one item, without a SIZE phrase.
+/// ADD of one operand to one item, without a SIZE phrase: the ADD of VARYING. It says whether there
+/// was a size error; the error is why the run ends.
 pub fn added(
     areas: &[Area],
     store: &mut Store,
@@ -257,8 +260,8 @@ pub fn added(
     targeted_at(areas, store, false, Basis::Plus(value), place, false)
 }
 
-/// The arithmetic statements: whether a receiver had a size error. `guarded` says that there is a
-/// SIZE phrase.
+/// Does an arithmetic statement, and says whether a receiver had a size error. `guarded` says that
+/// there is a SIZE phrase. The error is why the run ends.
 pub fn calculated(
     areas: &[Area],
     store: &mut Store,

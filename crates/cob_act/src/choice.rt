@@ -12,7 +12,7 @@ use crate::side::{ComparedSide, compared, expr_side};
 use cob_store::{Area, Store};
 use cob_tree::{Abend, Cond, Entry, Expr, Subject, Test, When};
 
-/// The arm of IF, from 1.
+/// The arm of IF, from 1. The error is why the run ends.
 pub fn if_chosen(
     entries: &[Entry],
     areas: &[Area],
@@ -135,8 +135,8 @@ fn one_holds(
     Ok(false)
 }
 
-/// The arm of EVALUATE, from 1: the first WHEN of which a test holds, or the number behind the
-/// last.
+/// The arm of EVALUATE, from 1: the first WHEN of which a test holds, or the number after the last.
+/// The error is why the run ends.
 pub fn evaluated(
     entries: &[Entry],
     areas: &[Area],

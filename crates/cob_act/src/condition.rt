@@ -97,6 +97,7 @@ fn has_sign(kind: SignKind, number: Dec) -> bool
     }
 }
 
+/// A test, negated where `turn` says so.
 pub fn turned(turn: bool, test: bool) -> bool
     ensures { result ≡ turned turn test }
 {
@@ -173,7 +174,8 @@ fn named(entries: &[Entry], areas: &[Area], store: &Store, place: &Place) -> Res
     in_spans(areas, store, side, spans_at(entries, place.item))
 }
 
-/// Whether a condition holds. The right side of AND and OR is tested only where it is needed.
+/// Whether a condition holds. The right side of AND and OR is tested only where it is needed. The
+/// error is why the run ends.
 pub fn holds(entries: &[Entry], areas: &[Area], store: &Store, cond: &Cond) -> Result<bool, Abend>
     ensures { result ≡ holds cond.now entries.now (memory_of areas.now store.now) }
 {

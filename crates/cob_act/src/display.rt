@@ -23,7 +23,7 @@ fn add_pointed(into: &mut Text, scale: u8, digits: &[u8]) -> Result<(), NoMemory
     into.add(part)
 }
 
-/// A number as it prints.
+/// Adds a number, as DISPLAY prints it.
 pub fn add_number(into: &mut Text, number: &Number) -> Result<(), NoMemory>
     ensures { OnOk result (into.new ≡ into.old ++ printed_number number.now) }
 {
@@ -66,7 +66,8 @@ fn add_operand(
     }
 }
 
-/// The bytes of DISPLAY, put into an empty text.
+/// Puts the bytes of DISPLAY into an empty text, with LF at the end where `advance` says so. The
+/// inner error is why the run ends.
 pub fn displayed(
     areas: &[Area],
     store: &Store,

@@ -1,8 +1,8 @@
-//! What a simple statement does, done.
+//! Does simple statements.
 //!
 //! `act` does a statement that needs no device, exactly as `meanings::statements` says: the store
-//! after it is the one that is said, and so is how it ended. A module has a family of statements,
-//! of the name that its definitions have there: DISPLAY in `display`, MOVE and SET in `moving`, the
+//! after it and how it ended are as defined there. Each module has a family of statements, under
+//! the name that its definitions have there: DISPLAY in `display`, MOVE and SET in `moving`, the
 //! arithmetic statements in `arithmetic`, the arms of IF and EVALUATE in `choice`.
 #![tactic(auto)]
 

@@ -1,6 +1,6 @@
 //! MOVE and SET.
 
-ghost use Rattle.std.specs.Prelude.{◌≡◌, ◌-◌, IfOk, length};
+ghost use Rattle.std.specs.Prelude.{◌≡◌, ◌-◌, IfErr, IfOk, length};
 ghost use Rattle.cob_store.specs.Store.{fitted, put_at};
 ghost use Rattle.cob_store.specs.Place.{reached};
 ghost use Rattle.meanings.specs.statements.Moving.{all_groups, moved, form_of, is_group, digits_of, none_is_bad, number_received, put_answer, receive, received, sender_bytes, sender_number, sender_text, sent, set, text_number};
@@ -88,7 +88,7 @@ fn sent<'a>(asked: bool, form: Form, bytes: &'a [u8]) -> Result<Sender<'a>, Aben
     }
 }
 
-// The last 18 bytes as an unsigned integer.
+// The last 18 bytes of a text, as an unsigned integer.
 fn text_number(bytes: &[u8]) -> Result<Dec, Abend>
     ensures { result ≡ text_number bytes.now }
 {
@@ -117,7 +117,7 @@ fn sender_number(sender: Sender) -> Result<Dec, Abend>
     }
 }
 
-// The digits of an integer without its sign.
+// Puts the digits of an integer, without its sign.
 fn put_integer(store: &mut Store, spot: Spot, digits: u16, number: Option<Dec>)
     ensures { store.new ≡ put_at store.old spot (fitted spot.length (digits_of digits number)) }
 {
@@ -148,7 +148,7 @@ fn put_text(store: &mut Store, spot: Spot, sender: Sender)
     }
 }
 
-// A group takes the bytes of an item, whatever its form.
+// Puts what a group gets: the bytes of the sender, whatever its form.
 fn put_bytes(store: &mut Store, spot: Spot, sender: Sender)
     ensures { store.new
         ≡ put_at store.old spot (sender_bytes spot.length (seen_sender sender.entry)) }
@@ -190,7 +190,7 @@ fn put_received(
     }
 }
 
-// What a receiver of that form is given.
+// Puts what a receiver of that form gets.
 fn put_sent(store: &mut Store, spot: Spot, form: Form, sender: Sender) -> Result<(), Abend>
     ensures { outcome_of store.new result
         ≡ put_answer store.old spot (received form spot.length (seen_sender sender.entry)) }
@@ -230,7 +230,7 @@ fn receive(areas: &[Area], store: &mut Store, sender: Sender, place: &Place) -> 
     put_sent(store, place.spot, place.form, sender)
 }
 
-// Each receiver is reached in the store that the ones before left.
+// Moves to each receiver, which is reached in the store that the ones before left.
 fn receive_all(
     areas: &[Area],
     store: &mut Store,
@@ -247,7 +247,8 @@ fn receive_all(
     Ok(())
 }
 
-/// MOVE. The bytes of a sending item are kept in `scratch`, since a receiver may lie over them.
+/// Does MOVE. The bytes of a sending item are kept in `scratch`, since a receiver may overlap them.
+/// The inner error is why the run ends.
 pub fn moved(
     areas: &[Area],
     store: &mut Store,
@@ -255,8 +256,9 @@ pub fn moved(
     from: &Operand,
     to: &[Place],
 ) -> Result<Result<(), Abend>, NoMemory>
-    ensures { IfOk result (λ answer. outcome_of store.new answer
+    ensures does { IfOk result (λ answer. outcome_of store.new answer
         ≡ moved areas.now from.now to.now store.old) }
+    ensures kept { IfErr result (λ e. store.new ≡ store.old) }
 {
     let asked = !all_groups(areas, to);
     match from {
@@ -277,7 +279,7 @@ pub fn moved(
     }
 }
 
-/// SET: the first value of a level 88 is moved to its item.
+/// Does SET: moves the first value of a level 88 to its item. The inner error is why the run ends.
 pub fn set(
     entries: &[Entry],
     areas: &[Area],
@@ -285,8 +287,9 @@ pub fn set(
     scratch: &mut Vec<u8>,
     place: &Place,
 ) -> Result<Result<(), Abend>, NoMemory>
-    ensures { IfOk result (λ answer. outcome_of store.new answer
+    ensures does { IfOk result (λ answer. outcome_of store.new answer
         ≡ set entries.now areas.now place.now store.old) }
+    ensures kept { IfErr result (λ e. store.new ≡ store.old) }
 {
     match spans_at(entries, place.item).split_first() {
         None => Ok(Ok(())),

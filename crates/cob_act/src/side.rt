@@ -24,13 +24,14 @@ pub enum ComparedSide<'a> {
         sign: Sign,
         bytes: &'a [u8],
     },
-    /// ZERO, which is a number, and beside text is repeated.
+    /// ZERO, which is a number, and is repeated where it is compared with text.
     Nought,
     Bytes(&'a [u8]),
     /// Any other figure.
     Filler(u8),
 }
 
+/// The value, or OutOfRange where there is none.
 pub fn valued(value: Option<Dec>) -> Result<Dec, Abend>
     ensures { result ≡ valued value }
 {
@@ -40,6 +41,7 @@ pub fn valued(value: Option<Dec>) -> Result<Dec, Abend>
     }
 }
 
+/// A place as a side of a comparison.
 pub fn place_side<'a>(
     areas: &[Area],
     store: &'a Store,
@@ -66,6 +68,7 @@ pub fn place_side<'a>(
     }
 }
 
+/// An operand as a side of a comparison.
 pub fn operand_side<'a>(
     areas: &[Area],
     store: &'a Store,
@@ -82,6 +85,7 @@ pub fn operand_side<'a>(
     }
 }
 
+/// An expression as a side of a comparison.
 pub fn expr_side<'a>(
     areas: &[Area],
     store: &'a Store,
@@ -144,6 +148,7 @@ fn numbers_compared(a: ComparedSide, b: ComparedSide) -> Result<Ordering, Abend>
     Ok(compare(first, second))
 }
 
+/// The bytes of a side that is compared by bytes.
 pub fn side_bytes<'a>(side: ComparedSide<'a>) -> &'a [u8]
     ensures { result.now ≡ side_bytes (seen side.entry) }
 {
@@ -182,7 +187,7 @@ fn bytes_compared(a: ComparedSide, b: ComparedSide) -> Ordering
     }
 }
 
-/// The order of two sides: by value where both are numbers, and else by bytes.
+/// The order of two sides: by value where both are numbers, otherwise by bytes.
 pub fn compared(a: ComparedSide, b: ComparedSide) -> Result<Ordering, Abend>
     ensures { result ≡ compared (seen a.entry) (seen b.entry) }
 {

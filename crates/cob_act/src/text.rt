@@ -1,4 +1,4 @@
-//! Texts beside one another.
+//! Comparison of texts.
 
 ghost use Rattle.std.specs.Prelude.{◌≡◌, ◌++◌, drop, length, replicate, take};
 ghost use Rattle.meanings.specs.statements.Text.{beside_spaces, byte_order, is_letter, pointed, printed_number, spaces_beside, text_order};
@@ -6,6 +6,7 @@ ghost use Rattle.meanings.specs.statements.Text.{beside_spaces, byte_order, is_l
 use cob_tree::Number;
 use std::cmp::Ordering;
 
+/// The order of two bytes.
 pub fn byte_order(a: u8, b: u8) -> Ordering
     ensures { result ≡ byte_order a b }
 {
@@ -63,7 +64,7 @@ pub fn text_order(a: &[u8], b: &[u8]) -> Ordering
     spaces_beside(left)
 }
 
-/// The order of a byte, as often as a text is long, and the text.
+/// The order of a byte, repeated to the length of a text, and the text.
 pub fn filler_order(byte: u8, text: &[u8]) -> Ordering
     ensures { result ≡ text_order (replicate (length text.now) byte) text.now }
 {
@@ -77,7 +78,7 @@ pub fn filler_order(byte: u8, text: &[u8]) -> Ordering
     Ordering::Equal
 }
 
-/// The order of a text and a byte, as often as the text is long.
+/// The order of a text and a byte, repeated to the length of the text.
 pub fn order_filler(text: &[u8], byte: u8) -> Ordering
     ensures { result ≡ text_order text.now (replicate (length text.now) byte) }
 {
@@ -98,14 +99,14 @@ fn front_order(piece: &[u8], text: &[u8]) -> Ordering
     text_order(piece, &text[..piece.len().min(text.len())])
 }
 
-// The text behind a piece of that length.
+// The text after a piece of that length.
 fn behind<'a>(text: &'a [u8], piece: &[u8]) -> &'a [u8]
     ensures { result.now ≡ drop (length piece.now) text.now }
 {
     &text[piece.len().min(text.len())..]
 }
 
-// The order of two pieces behind one another, and a text.
+// The order of two pieces, one after the other, and a text.
 #[tactic(auto, using(crate::proofs::Pieces::text_order_pieces))]
 fn pieces_order(first: &[u8], second: &[u8], text: &[u8]) -> Ordering
     ensures { result ≡ text_order (first.now ++ second.now) text.now }
@@ -117,7 +118,7 @@ fn pieces_order(first: &[u8], second: &[u8], text: &[u8]) -> Ordering
     }
 }
 
-// The digits of a number with its point, and a text.
+// The order of a number's digits, with its point, and a text.
 #[tactic(auto, using(crate::proofs::Pieces::text_order_pieces))]
 fn pointed_order(scale: u8, digits: &[u8], text: &[u8]) -> Ordering
     ensures { result ≡ text_order (pointed scale digits.now) text.now }
@@ -133,7 +134,7 @@ fn pointed_order(scale: u8, digits: &[u8], text: &[u8]) -> Ordering
     }
 }
 
-/// The order of a number as it prints, and a text.
+/// The order of a number, as DISPLAY prints it, and a text.
 #[tactic(auto, using(crate::proofs::Pieces::text_order_pieces))]
 pub fn literal_order(number: &Number, text: &[u8]) -> Ordering
     ensures { result ≡ text_order (printed_number number.now) text.now }
@@ -152,6 +153,7 @@ pub fn literal_order(number: &Number, text: &[u8]) -> Ordering
     }
 }
 
+/// Whether the byte is a letter, in either case.
 pub fn is_letter(byte: u8) -> bool
     ensures { result ≡ is_letter byte }
 {

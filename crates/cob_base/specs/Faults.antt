@@ -1,7 +1,7 @@
 -- How the failures of the outside are counted.
 use Rattle.std.specs.Prelude.{ℕ, ◌+◌, ◌-◌, ◌^◌, ◌≤◌, min, Bool, if◌then◌else◌}
 
--- the count rose, or stands at its last value
+-- the count rose, or is at its last value
 abbrev pub Rose : ℕ → ℕ → Type 0
 Rose before now = min (before + 1) (2 ^ 64 - 1) ≤ now
 

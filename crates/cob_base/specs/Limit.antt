@@ -1,4 +1,4 @@
--- The limits, and how one that was passed is told.
+-- The limits, and how one that was passed is reported.
 use Rattle.std.specs.Prelude.{ℕ, nat_le, Bool, if◌then◌else◌, List, ◌++◌, codes, Option, Some, None}
 use Rattle.std.specs.Fmt.{decimal}
 use Rattle.cob_base.specs.declared.limit.Limit.{Limit}
@@ -27,10 +27,11 @@ max_parens = 500
 abbrev pub max_nesting : ℕ
 max_nesting = 500
 
--- bytes of all items
+-- how many bytes all items may have
 abbrev pub max_storage : ℕ
 max_storage = 16777216
 
+-- how many paragraphs a source may have
 abbrev pub max_paragraphs : ℕ
 max_paragraphs = 5000
 
@@ -71,8 +72,9 @@ abbrev pub passed : LimitKind → (of_result : Bool) → (counted : ℕ) → Opt
 passed kind of_result counted =
     if nat_le counted (most kind) then None else Some (past kind of_result counted)
 
--- ---- how it is told
+-- ---- how it is reported
 
+-- the word of a limit
 abbrev pub limit_kind_text : LimitKind → List ℕ
 limit_kind_text kind.Source = codes "SOURCE"
 limit_kind_text kind.Tokens = codes "TOKENS"
@@ -85,12 +87,13 @@ limit_kind_text kind.Ranges = codes "RANGES"
 limit_kind_text kind.Nodes = codes "NODES"
 limit_kind_text kind.Bytes = codes "BYTES"
 
--- the kind, and that it is of the result
+-- the name of a limit: its kind, and where it is one of the result that it is
 abbrev pub limit_name : Limit → List ℕ
 limit_name limit =
     let begin = if limit.of_result then codes "RESULT LIMIT " else codes "LIMIT " in
     begin ++ limit_kind_text limit.kind
 
+-- the limit with what was counted: its kind, the count, and the limit's number
 abbrev pub limit_text : Limit → List ℕ
 limit_text limit =
     let numbers = decimal limit.counted ++ codes " LIMIT " ++ decimal limit.limit in

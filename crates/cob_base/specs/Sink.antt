@@ -29,16 +29,22 @@ gave_fails gave.All = false
 gave_fails (gave.Part n) = false
 gave_fails gave.Failed = true
 
--- no count falls, and where the answer is Failed it rose, or stands at its last value
+-- no count falls, and where the answer is Failed it rose, or is at its last value
 pub record GaveCause (before now : ℕ) (answer : Gave) : Type 0 where
+  -- the count doesn't fall
   pub later : before ≤ now
+  -- where the answer is Failed, it rose
   pub failed : answer ≡ gave.Failed → Rose before now
 
 -- a sink before and after a call: what it tells to hold, and how often it failed
 pub record SinkCall : Type 0 where
+  -- what it held before the call, if it tells
   pub held : Option (List ℕ)
+  -- what it holds after the call, if it tells
   pub now : Option (List ℕ)
+  -- how often it had failed
   pub count : ℕ
+  -- how often it has failed
   pub count_now : ℕ
 
 -- a call's sink, by what a sink holds, how often it failed, and itself before and after

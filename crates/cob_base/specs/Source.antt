@@ -15,9 +15,13 @@ TakesAtMost most _ = Unit {0}
 pub record TakesBytes (bytes : List ℕ) (n : ℕ) (old new : List ℕ)
     (now : Option (List ℕ)) : Type 0 where
   pub within : n ≤ length bytes
+  -- the front of the buffer is the first of them
   pub given : new ≡ take n bytes ++ drop n old
+  -- the others are left
   pub left : now ≡ Some (drop n bytes)
+  -- some are given, where there are some and room for one
   pub moves : 0 < length old → 0 < length bytes → 0 < n
+  -- where none are left there was room; without room that is the end
   pub some : length bytes ≡ 0 → 0 < length old
 
 -- what is left, the answer, the buffer before and after, what is left then
@@ -33,16 +37,22 @@ took_fails (took.Bytes n) = false
 took_fails took.End = false
 took_fails took.Failed = true
 
--- no count falls, and where the answer is Failed it rose, or stands at its last value
+-- no count falls, and where the answer is Failed it rose, or is at its last value
 pub record TookCause (before now : ℕ) (answer : Took) : Type 0 where
+  -- the count doesn't fall
   pub later : before ≤ now
+  -- where the answer is Failed, it rose
   pub failed : answer ≡ took.Failed → Rose before now
 
 -- a source before and after a call: what it tells to be left, and how often it failed
 pub record SourceCall : Type 0 where
+  -- what was left before the call, if it tells
   pub told : Option (List ℕ)
+  -- what is left after the call, if it tells
   pub left : Option (List ℕ)
+  -- how often it had failed
   pub count : ℕ
+  -- how often it has failed
   pub count_now : ℕ
 
 -- a call's source, by what is left of a source, how often it failed, and itself before and after

@@ -1,7 +1,7 @@
-//! All of some bytes into a sink that has room for them, piece by piece.
+//! Writes all of some bytes to a sink that has room for them, piece by piece.
 //!
-//! A sink takes what it likes of a piece, so a caller goes on with what is left. `give_all` tells
-//! what went out whatever the sink does: hold it against `Takes` in specs/Giving.antt.
+//! A sink takes as much of a piece as it likes, so a caller goes on with what is left. What went
+//! out, whatever the sink does, `Takes` in specs/giving/Giving.antt says.
 
 ghost use Rattle.std.specs.Prelude.{◌≡◌, ◌≤◌, length, drop, true, false};
 ghost use Rattle.cob_base.specs.Faults.{Rose};
@@ -10,7 +10,7 @@ ghost use Rattle.cob_base.specs.giving.Giving.{Gains, Takes};
 
 use crate::{Gave, Sink};
 
-/// Gives all these bytes, for which there is room, and takes no memory; false where the sink
+/// Writes all these bytes, for which there is room, without allocating; false where the sink
 /// failed.
 pub fn give_all<K: Sink>(sink: &mut K, bytes: &[u8]) -> bool
     requires { length bytes.now ≤ K.spare sink.old }
@@ -30,7 +30,7 @@ pub fn give_all<K: Sink>(sink: &mut K, bytes: &[u8]) -> bool
     true
 }
 
-// The bytes behind so many.
+// The bytes after the first `count`.
 fn behind(bytes: &[u8], count: usize) -> &[u8]
     requires { count ≤ length bytes.now }
     ensures { result.now ≡ drop count bytes.now }

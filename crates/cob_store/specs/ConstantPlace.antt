@@ -26,12 +26,12 @@ abbrev pub number_alone : Number → Option ℕ
 number_alone number =
     if number.negative || not (number.scale == 0) then None else digits_value number.digits
 
--- there is a number, and it is the one that is wanted
+-- there is a number, and it is the one that is asked for
 abbrev pub is_that : Option ℕ → ℕ → Bool
 is_that None wanted = false
 is_that (Some value) wanted = value == wanted
 
--- the number of a subscript, where no item stands before it
+-- the number of a subscript, where no item comes before it
 abbrev pub number_behind : Option Place → Number → Option ℕ
 number_behind None plus = number_alone plus
 number_behind (Some base) plus = None
@@ -103,15 +103,22 @@ IsKnown dims known = numbers_spot dims known.whole known.subs.items known.part �
 
 -- the numbers are those of this place of the item that lies there
 pub record IsOf (known : ConstantPlace) (whole : Spot) (place : Place) : Type 0 where
+  -- it begins with the whole item
   pub lies : known.whole ≡ whole
+  -- its subscripts are the place's
   pub subs : are_subs (out-Place place).subs known.subs.items ≡ true
+  -- its window is the place's
   pub part : is_part (out-Place place).window known.part ≡ true
 
 -- the place is of numbers alone, which lead to this spot
 pub record KnownOf (dims : List Dim) (whole : Spot) (place : Place) (spot : Spot) : Type 0 where
+  -- what is known of the place
   pub known : ConstantPlace
+  -- that is of this place
   pub same : IsOf known whole place
+  -- the numbers are within their limits
   pub right : IsKnown dims known
+  -- and they lead to this spot
   pub there : known.spot ≡ spot
 
 -- wherever the item lies there, this is reached at the place

@@ -7,23 +7,27 @@ use Rattle.cob_tree.specs.declared.picture.Sign.TheVariants.{Within, SeparateLea
 
 -- ---- reading
 
--- all bytes but the last, and the last
+-- all bytes but the last
 abbrev pub front : List ℕ → List ℕ
 front bytes = take (length bytes - 1) bytes
 
+-- the last byte
 abbrev pub last : List ℕ → ℕ
 last bytes = slice_index bytes (length bytes - 1)
 
+-- this number, if there is one
 abbrev pub positive : Option ℕ → Option ℤ
 positive = option_map (λ number. pos number)
 
+-- this number below zero, if there is one
 abbrev pub negative : Option ℕ → Option ℤ
 negative = option_map (λ number. neg_ℤ (pos number))
 
--- the last digit of a negative number is p to y
+-- the byte is one of p to y, as the last digit of a negative number is
 abbrev pub is_overpunched : ℕ → Bool
 is_overpunched byte = nat_le 112 byte && nat_le byte 121
 
+-- the number of digits whose last one may hold a minus sign
 abbrev pub within : List ℕ → Option ℤ
 within bytes =
     if is_overpunched (last bytes)
@@ -45,22 +49,26 @@ number_in true SeparateTrailing bytes = beside (last bytes) (digits_value (front
 
 -- ---- writing
 
--- the last digits of a number, as many as there are places
+-- the digits of a number in so many places, the last ones where there are more
 abbrev pub padded : ℕ → ℕ → List ℕ
 padded zero number = []
 padded (suc places) number = padded places (number / 10) ++ (48 + number % 10) ∷ []
 
+-- the digits of a negative number, whose last one holds the sign
 abbrev pub overpunched : ℕ → ℕ → List ℕ
 overpunched zero number = []
 overpunched (suc places) number = padded places (number / 10) ++ (112 + number % 10) ∷ []
 
+-- the minus or plus sign
 abbrev pub sign_byte : Bool → ℕ
 sign_byte minus = if minus then 45 else 43
 
+-- the sign, and then the digits
 abbrev pub leading : ℕ → Bool → ℕ → List ℕ
 leading zero minus number = []
 leading (suc places) minus number = sign_byte minus ∷ padded places number
 
+-- the digits, and then the sign
 abbrev pub trailing : ℕ → Bool → ℕ → List ℕ
 trailing zero minus number = []
 trailing (suc places) minus number = padded places number ++ sign_byte minus ∷ []
@@ -73,6 +81,7 @@ signed_bytes true Within places minus number =
 signed_bytes true SeparateLeading places minus number = leading places minus number
 signed_bytes true SeparateTrailing places minus number = trailing places minus number
 
+-- the bytes of a number in an item of that length
 abbrev pub number_bytes : Bool → Sign → ℕ → ℤ → List ℕ
 number_bytes signed sign places number =
     signed_bytes signed sign places (is_negative number) (unsigned_abs number)

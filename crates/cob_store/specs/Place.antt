@@ -32,6 +32,7 @@ pub record Memory : Type 0 where
   pub areas : List Area
   pub store : Roots
 
+-- where the items lie, with what is stored there
 abbrev pub memory_of : List Area → Roots → Memory
 memory_of areas store = record { areas = areas; store = store }
 
@@ -41,10 +42,12 @@ Value = Option Dec
 
 -- ---- literals
 
+-- the number, below zero where it is negative
 abbrev pub signed_by : Bool → ℕ → ℤ
 signed_by true number = neg_ℤ (pos number)
 signed_by false number = pos number
 
+-- the number that a numeric literal writes
 abbrev pub literal_value : Number → Value
 literal_value number =
     option_and_then (λ n.
@@ -60,13 +63,14 @@ kept whole part rounded number =
 
 -- ---- places
 
--- how far a number from 1 to the count lies behind 1
+-- how far a number from 1 to the count lies after 1; any other is out of range
 abbrev pub offset_of : ℤ → ℕ → Answer ℕ
 offset_of number count =
     if is_positive number && nat_le (unsigned_abs number) count
     then Ok (unsigned_abs number - 1)
     else Err OutOfRange
 
+-- the same of a value; none is out of range
 abbrev pub offset_in : Value → ℕ → Answer ℕ
 offset_in None count = Err OutOfRange
 offset_in (Some number) count = offset_of number.value count
@@ -80,15 +84,17 @@ abbrev pub spot_from : Spot → ℕ → Spot
 spot_from spot offset =
     record { root = spot.root; start = capped (spot.start + offset); length = spot.length - offset }
 
+-- the first bytes of a spot, one more than this number
 abbrev pub spot_long : Spot → ℕ → Spot
 spot_long spot offset = record { root = spot.root; start = spot.start; length = offset + 1 }
 
 -- ---- what each part of a place or an expression gives to those above it
 
+-- what a memory gives, or the end of the run
 abbrev pub OfMemory : Type 0 → Type 0
 OfMemory A = Memory → Answer A
 
--- the number at a place; text has none
+-- the number at a spot of this form; text has none
 abbrev pub number_at : Roots → Spot → Form → Answer Value
 number_at roots spot (forms.Number signed whole part sign) =
     and_then (value_at roots spot (forms.Number signed whole part sign)) (λ number.
@@ -96,40 +102,47 @@ number_at roots spot (forms.Number signed whole part sign) =
 number_at roots spot forms.Group = Ok None
 number_at roots spot forms.Text = Ok None
 
+-- the number at a place that was found
 abbrev pub place_number : OfMemory Reached → OfMemory Value
 place_number place memory =
     and_then (place memory) (λ reached. number_at memory.store reached.spot reached.form)
 
+-- the result of an operator on two numbers; a quotient has nine decimal places at least
 abbrev pub calculated_by : Op → Dec → Dec → Value
 calculated_by ops.Add a b = sum_of a b
 calculated_by ops.Sub a b = difference_of a b
 calculated_by ops.Mul a b = product_of a b
 calculated_by ops.Div a b = quotient_of a b 9
 
+-- the result of an operator, where both operands have a value
 abbrev pub calculated : Op → Value → Value → Value
 calculated op (Some a) (Some b) = calculated_by op a b
 calculated op _ _ = None
 
+-- this number less than that one
 abbrev pub difference_from : Dec → Value → Value
 difference_from number None = None
 difference_from number (Some zero) = difference_of zero number
 
+-- the value with its sign turned
 abbrev pub negated : Value → Value
 negated None = None
 negated (Some number) = difference_from number (decimal (pos 0) 0)
 
+-- one level of a place or expression, in which each part is what it gives to those above it
 abbrev pub Layer : (Type 0 → Type 0 → Type 0 → Type 0 → Type 0 → Type 0) → Type 0
 Layer F =
     F (OfMemory Value) (OfMemory Value) (OfMemory Reached) (OfMemory Value)
     (Memory → Spot → Answer Spot)
 
--- all operands are read before anything is computed
+-- what one level of an expression is worth; all operands are read before anything is computed
 abbrev pub expr_step : Layer Expr-F → OfMemory Value
 expr_step (Expr-F.Leaf operand) = operand
 expr_step (Expr-F.Minus operand) = λ memory. and_then (operand memory) (λ a. Ok (negated a))
 expr_step (Expr-F.Both op left right) =
     λ memory. and_then (left memory) (λ a. and_then (right memory) (λ b. Ok (calculated op a b)))
 
+-- what an operand is worth; text and other figures than ZERO have no value
 abbrev pub operand_step : Layer Operand-F → OfMemory Value
 operand_step (Operand-F.Place place) = place_number place
 operand_step (Operand-F.Number number) = λ memory. Ok (literal_value number)
@@ -137,19 +150,22 @@ operand_step (Operand-F.Text bytes) = λ memory. Ok None
 operand_step (Operand-F.Figure Zero) = λ memory. Ok (decimal (pos 0) 0)
 operand_step (Operand-F.Figure _) = λ memory. Ok None
 
+-- the sum, where both have a value
 abbrev pub sum_by : Value → Value → Value
 sum_by (Some a) (Some b) = sum_of a b
 sum_by _ _ = None
 
+-- a subscript: its number alone, or added to what its item holds
 abbrev pub sub_by : Option (OfMemory Reached) → Value → OfMemory Value
 sub_by None plus memory = Ok plus
 sub_by (Some base) plus memory =
     and_then (place_number base memory) (λ value. Ok (sum_by value plus))
 
+-- what a subscript is worth
 abbrev pub sub_step : Layer Sub-F → OfMemory Value
 sub_step sub memory = sub_by sub.base (literal_value sub.plus) memory
 
--- an offset behind those that were read; a place has at most three
+-- an offset after those that were read; a place has at most three
 abbrev pub kept_behind : List ℕ → ℕ → Answer (List ℕ)
 kept_behind read offset =
     if nat_lt (length read) 3 then Ok (read ++ offset ∷ []) else Err OutOfRange
@@ -159,7 +175,7 @@ abbrev pub with_kept : Answer (Unit {0}) → List ℕ → Answer (List ℕ)
 with_kept (Ok _) now = Ok now
 with_kept (Err abend) now = Err abend
 
--- the offsets of the subscripts from the left, each read and then checked, behind those that
+-- the offsets of the subscripts from the left, each read and then checked, after those that
 -- were read
 abbrev pub offsets_behind : Memory → List ℕ → List (OfMemory Value) → List Dim → Answer (List ℕ)
 offsets_behind memory read [] dims = Ok read
@@ -168,17 +184,19 @@ offsets_behind memory read (sub ∷ subs) (dim ∷ dims) =
     and_then (sub memory) (λ value. and_then (offset_in value dim.count) (λ offset.
     and_then (kept_behind read offset) (λ now. offsets_behind memory now subs dims)))
 
--- the start of the occurrence that lies by these offsets behind the first
+-- the start of the occurrence that lies by these offsets after the first
 abbrev pub occurrence_at : List ℕ → List Dim → ℕ → ℕ
 occurrence_at [] dims start = start
 occurrence_at (offset ∷ offsets) [] start = start
 occurrence_at (offset ∷ offsets) (dim ∷ dims) start =
     occurrence_at offsets dims (occurrence dim start offset)
 
+-- the start of the occurrence that the subscripts name
 abbrev pub subscripted : Memory → List (OfMemory Value) → List Dim → ℕ → Answer ℕ
 subscripted memory subs dims start =
     and_then (offsets_behind memory [] subs dims) (λ offsets. Ok (occurrence_at offsets dims start))
 
+-- the spot cut to the window's length, if that is given
 abbrev pub long_by : Memory → Option (OfMemory Value) → Spot → Answer Spot
 long_by memory None spot = Ok spot
 long_by memory (Some size) spot =
@@ -202,6 +220,7 @@ windowed_by memory (Some window) spot form =
 abbrev pub spot_of : Area → ℕ → Spot
 spot_of area start = record { root = area.root; start = start; length = area.size }
 
+-- the spot of a place by its item's area; out of range where the item has none
 abbrev pub reached_in : Memory → List (OfMemory Value) → Option (Memory → Spot → Answer Spot) →
     Option Area → Answer Reached
 reached_in memory subs window None = Err OutOfRange
@@ -209,32 +228,38 @@ reached_in memory subs window (Some area) =
     and_then (subscripted memory subs area.dims area.start) (λ start.
     windowed_by memory window (spot_of area start) area.form)
 
+-- where a place is
 abbrev pub place_step : Layer Place-F → OfMemory Reached
 place_step place memory =
     reached_in memory place.subs place.window (slice_get memory.areas place.item)
 
 -- ---- whole places and expressions
 
+-- where a place is, and its form
 abbrev pub reached : Place → OfMemory Reached
 reached =
     fold-Place (OfMemory Value) (OfMemory Value) (OfMemory Reached) (OfMemory Value)
     (Memory → Spot → Answer Spot) expr_step operand_step place_step sub_step window_step
 
+-- what a subscript is worth
 abbrev pub sub_value : Sub → OfMemory Value
 sub_value =
     fold-Sub (OfMemory Value) (OfMemory Value) (OfMemory Reached) (OfMemory Value)
     (Memory → Spot → Answer Spot) expr_step operand_step place_step sub_step window_step
 
+-- the part of a spot that a window names
 abbrev pub window_of : Window → Memory → Spot → Answer Spot
 window_of =
     fold-Window (OfMemory Value) (OfMemory Value) (OfMemory Reached) (OfMemory Value)
     (Memory → Spot → Answer Spot) expr_step operand_step place_step sub_step window_step
 
+-- what an operand is worth
 abbrev pub operand_value : Operand → OfMemory Value
 operand_value =
     fold-Operand (OfMemory Value) (OfMemory Value) (OfMemory Reached) (OfMemory Value)
     (Memory → Spot → Answer Spot) expr_step operand_step place_step sub_step window_step
 
+-- what an expression is worth
 abbrev pub expr_value : Expr → OfMemory Value
 expr_value =
     fold-Expr (OfMemory Value) (OfMemory Value) (OfMemory Reached) (OfMemory Value)

@@ -11,12 +11,13 @@ use Rattle.cob_store.specs.declared.size.SizedItem.{SizedItem}
 abbrev pub capped : ℕ → ℕ
 capped bytes = min bytes (2 ^ 32 - 1)
 
--- binary and packed usages come in here
+-- how many bytes a sign takes by itself
 abbrev pub sign_size : Sign → ℕ
 sign_size Within = 0
 sign_size SeparateLeading = 1
 sign_size SeparateTrailing = 1
 
+-- how many bytes an item with this picture has
 abbrev pub picture_size : Picture → Sign → ℕ
 picture_size (pictures.Number signed whole part) sign = whole + part + sign_size sign
 picture_size (pictures.Letters size) sign = size
@@ -31,29 +32,33 @@ abbrev pub is_bare : (faulty : Bool) → Entry → Bool
 is_bare true entry = is_condition entry || entry.level == 0
 is_bare false entry = is_condition entry
 
--- an item of level 77 stands in no group and has no items in it, wherever it is written
+-- an item of level 77 is in no group and has no items in it, wherever it is written
 abbrev pub is_apart : Entry → Bool
 is_apart entry = entry.level == 77
 
--- the bytes of the pieces below an item, and the pieces behind it
+-- this count and the bytes of the pieces below an item of this depth
 abbrev pub inside : ℕ → ℕ → List SizedItem → ℕ
 inside depth bytes [] = bytes
 inside depth bytes (piece ∷ pieces) =
     if nat_lt depth piece.depth then inside depth (capped (bytes + piece.bytes)) pieces else bytes
 
+-- the pieces after those below an item of this depth
 abbrev pub behind : ℕ → List SizedItem → List SizedItem
 behind depth [] = []
 behind depth (piece ∷ pieces) =
     if nat_lt depth piece.depth then behind depth pieces else piece ∷ pieces
 
+-- how many bytes one occurrence has: by its picture, or those of its group
 abbrev pub size_by : Option Picture → Sign → ℕ → ℕ
 size_by None sign bytes = bytes
 size_by (Some picture) sign bytes = picture_size picture sign
 
+-- the bytes of all occurrences
 abbrev pub times : Option ℕ → ℕ → ℕ
 times None size = size
 times (Some count) size = capped (size * count)
 
+-- the bytes that an item adds to its group; one that redefines adds none
 abbrev pub added : Option ℕ → ℕ → ℕ
 added None bytes = bytes
 added (Some redefined) bytes = 0
@@ -63,6 +68,7 @@ pub record Sized : Type 0 where
   pub sizes : List ℕ
   pub pieces : List SizedItem
 
+-- an entry of this size, before the later ones
 abbrev pub item_sized : Entry → ℕ → Sized → Sized
 item_sized entry size later = record {
   sizes = size ∷ later.sizes;
@@ -77,6 +83,7 @@ item_sized entry size later = record {
 abbrev pub apart_sized : ℕ → Sized → Sized
 apart_sized size later = record { sizes = size ∷ later.sizes; pieces = later.pieces }
 
+-- an entry, before the later ones
 abbrev pub sized_by_either : (faulty : Bool) → Entry → Sized → Sized
 sized_by_either faulty entry later =
     if is_bare faulty entry
@@ -86,14 +93,16 @@ sized_by_either faulty entry later =
     else item_sized entry (size_by entry.picture entry.sign
     (inside entry.level 0 later.pieces)) later
 
+-- the sizes of these entries
 abbrev pub sized_either : (faulty : Bool) → List Entry → Sized
 sized_either faulty [] = record { sizes = []; pieces = [] }
 sized_either faulty (entry ∷ entries) =
     sized_by_either faulty entry (sized_either faulty entries)
 
+-- the sizes with those of an entry, by itself without fault
 abbrev pub sized_by : Entry → Sized → Sized
 sized_by = sized_by_either false
 
--- of entries without fault
+-- the sizes of entries without fault
 abbrev pub sized : List Entry → Sized
 sized = sized_either false

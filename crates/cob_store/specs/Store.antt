@@ -17,13 +17,15 @@ use Rattle.cob_store.specs.declared.spot.Spot.{Spot}
 abbrev pub Roots : Type 0
 Roots = List (List ℕ)
 
--- roots of these sizes before anything is put into them
+-- roots of these sizes, all spaces, before anything is put into them
 abbrev pub blank : List ℕ → Roots
 blank = map (λ size. replicate size 32)
 
+-- the bytes of a root; a root that isn't there has none
 abbrev pub root_bytes : Roots → ℕ → List ℕ
 root_bytes roots root = unwrap_or (slice_get roots root) []
 
+-- the bytes at a spot
 abbrev pub spot_bytes : Roots → Spot → List ℕ
 spot_bytes roots spot = take spot.length (drop spot.start (root_bytes roots spot.root))
 

@@ -1,4 +1,4 @@
-//! Where items lie.
+//! Where items are in storage.
 
 ghost use Rattle.std.specs.Prelude.{◌≡◌, ◌^◌, ◌-◌, min, sum, option_copied, slice_get};
 ghost use Rattle.cob_store.specs.Area.{root_of, size_of, start_of};
@@ -10,7 +10,7 @@ use cob_tree::Sign;
 /// The repetitions of an OCCURS clause.
 #[derive(Clone, Copy, Debug, PartialEq, Eq)]
 pub struct Dim {
-    /// How far the next occurrence lies behind one.
+    /// How many bytes after an occurrence the next one begins.
     pub stride: u32,
     /// How many occurrences there are.
     pub count: u32,
@@ -32,21 +32,21 @@ pub enum Form {
     Text,
 }
 
-/// Where an item lies, and the form of its bytes. A level 88 lies where its item lies.
+/// Where an item is, and the form of its bytes. A level 88 is where its item is.
 #[derive(Debug, Drop)]
 pub struct Area {
-    /// The root that it lies in.
+    /// The root that it is in.
     pub root: u32,
     /// Where its first occurrence begins.
     pub start: u32,
     /// The bytes of one occurrence.
     pub size: u32,
     pub form: Form,
-    /// The OCCURS clauses that it stands under, the outermost first.
+    /// The OCCURS clauses that apply to it, the outermost first.
     pub dims: Dims,
 }
 
-/// Where each entry of a program lies, and how long each root is.
+/// Where each entry of a program is, and how long each root is.
 #[derive(Debug, Drop)]
 pub struct Areas {
     /// An area for each entry.
@@ -56,7 +56,7 @@ pub struct Areas {
 }
 
 impl Areas {
-    /// The root that an item lies in.
+    /// The root that an item is in; 0 where there is no such item.
     pub fn root(&self, item: u32) -> u32
         ensures { result ≡ root_of (slice_get self.now.items item) }
     {
@@ -66,7 +66,8 @@ impl Areas {
         }
     }
 
-    /// Where an item's first occurrence begins in its root.
+    /// The byte of its root at which an item's first occurrence begins, from 0; 0 where there is no
+    /// such item.
     pub fn start(&self, item: u32) -> u32
         ensures { result ≡ start_of (slice_get self.now.items item) }
     {
@@ -76,7 +77,7 @@ impl Areas {
         }
     }
 
-    /// The bytes of one occurrence of an item.
+    /// How many bytes one occurrence of an item has; 0 where there is no such item.
     pub fn size(&self, item: u32) -> u32
         ensures { result ≡ size_of (slice_get self.now.items item) }
     {
@@ -86,7 +87,7 @@ impl Areas {
         }
     }
 
-    /// The bytes of all roots.
+    /// The bytes of all roots together, at most the largest `u64`.
     pub fn total(&self) -> u64
         ensures { result ≡ min (sum self.now.roots) (2 ^ 64 - 1) }
     {
@@ -98,7 +99,7 @@ impl Areas {
     }
 }
 
-/// The area of an item.
+/// The area of an item; none where there is no such item.
 pub fn area_at(areas: &[Area], item: u32) -> Option<&Area>
     ensures { option_copied result ≡ slice_get areas.now item }
 {

@@ -1,7 +1,7 @@
 //! Places whose subscripts and window are numbers alone, with their spots.
 //!
-//! A run asks for the spot of such a place at each turn, and it is the same at each. So it is kept
-//! beside the item's OCCURS clauses, under the numbers that lead there.
+//! The spot of such a place is the same throughout a run. So it is kept with the item's OCCURS
+//! clauses, under the numbers of its subscripts and window.
 
 ghost use Rattle.std.specs.Prelude.{◌≡◌, All, IfSome, IsTrue, OnOk};
 ghost use Rattle.cob_store.specs.ConstantPlace.{IsKnown, IsOf, KnownOf, are_subs, expr_number, is_length, is_part, is_that, is_window, number_alone, sub_number};
@@ -14,7 +14,7 @@ use smallvec::SmallVec;
 use std::alloc::Global;
 use std::marker::Model;
 
-/// The numbers of a window: the first character, and how many where it says so.
+/// The numbers of a window: the first character, and the length where it has one.
 #[derive(Clone, Copy, Debug, PartialEq, Eq)]
 pub struct WindowNumbers {
     pub from: u64,
@@ -31,7 +31,7 @@ pub struct ConstantPlace {
     pub spot: Spot,
 }
 
-/// The OCCURS clauses that an item stands under, the outermost first, with places of the item whose
+/// The OCCURS clauses that apply to an item, the outermost first, with places of the item whose
 /// spots are known. Contracts see the clauses alone.
 #[derive(Debug, Drop)]
 pub struct Dims {
@@ -53,6 +53,7 @@ impl Model for Dims {
 }
 
 impl Dims {
+    /// These OCCURS clauses, without a known place.
     pub fn new(alloc: Global, dims: Items<Dim>) -> Dims
         ensures { result ≡ dims }
     {
@@ -62,6 +63,7 @@ impl Dims {
         }
     }
 
+    /// The OCCURS clauses, the outermost first.
     pub fn as_slice(&self) -> &[Dim]
         ensures { result.now ≡ self.now }
     {
@@ -172,7 +174,7 @@ fn same_spot(a: Spot, b: Spot) -> bool
     a.start == b.start && a.length == b.length && a.root == b.root
 }
 
-/// Whether it is this place of the item that lies there.
+/// Whether it is this place, of the item that is at `whole`.
 pub fn is_of(known: &ConstantPlace, whole: Spot, place: &Place) -> bool
     ensures { IsTrue result → IsOf known.now whole place.now }
 {

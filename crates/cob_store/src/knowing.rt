@@ -15,8 +15,8 @@ use cob_tree::{Place, Sub, Window};
 use smallvec::SmallVec;
 use std::alloc::Global;
 
-/// How many places of an item are kept, so that they are looked through in a short time. Any others
-/// are worked out at their turn.
+/// How many places of an item are kept at most, so that searching them is fast. The spots of others
+/// are computed each time.
 const MOST_KNOWN: usize = 16;
 
 // The numbers of subscripts, of which a place has at most three.
@@ -54,7 +54,7 @@ fn numbers_of(alloc: Global, area: &Area, place: &Place) -> Option<ConstantPlace
     })
 }
 
-// What is known of a place from now on.
+// What is to be kept of a place; none where it isn't of numbers alone, or leads nowhere.
 fn learned(areas: &[Area], store: &Store, place: &Place) -> Option<ConstantPlace>
     ensures { IfSome result (λ known.
         IsKnownOf (slice_get areas.now (out-Place place.now).item) known) }
@@ -77,8 +77,8 @@ fn learned(areas: &[Area], store: &Store, place: &Place) -> Option<ConstantPlace
     })
 }
 
-/// Keeps the spot of a place whose subscripts and window are numbers alone, where they lead
-/// anywhere. The areas stay as they were.
+/// Keeps the spot of a place whose subscripts and window are numbers alone, where the place has
+/// one. To contracts the areas stay the same.
 pub fn know(areas: &mut [Area], store: &Store, place: &Place) -> Result<(), NoMemory>
     ensures { areas.new ≡ areas.old }
 {

@@ -1,4 +1,4 @@
-//! Where the items of a program lie.
+//! Where the items of a program are in storage.
 
 ghost use Rattle.std.specs.Prelude.{◌≡◌, Ok, ◌++◌, ◌<◌, [], ◌^◌, OnOk, length, option_copied};
 ghost use Rattle.cob_base.specs.Answers.{Makes};
@@ -12,7 +12,7 @@ use cob_base::{Items, NoMemory};
 use cob_tree::{Entry, Picture, Sign};
 use std::alloc::Global;
 
-/// A group that is open: where its next item begins.
+/// A group that is open, and where its next item begins.
 #[derive(Debug, Drop)]
 pub struct Open {
     pub depth: u8,
@@ -21,8 +21,8 @@ pub struct Open {
     pub dims: Items<Dim>,
 }
 
-/// What is laid so far: the areas, how long each root is, the groups that are open, the innermost
-/// first, and the file of the last entry.
+/// What is laid out so far: the areas, how long each root is, the groups that are open, the
+/// innermost first, and the file of the last entry.
 #[derive(Debug, Drop)]
 pub struct Laid {
     pub areas: Items<Area>,
@@ -31,7 +31,7 @@ pub struct Laid {
     pub file: Option<u32>,
 }
 
-// Leaves the groups that an item of this depth stands in.
+// Closes the groups that an item of this depth isn't in.
 fn close_groups(groups: &mut Stack<Open>, depth: u8)
     ensures { groups.new ≡ groups_of depth groups.old }
 {
@@ -65,7 +65,7 @@ fn form_by(sign: Sign, picture: Option<Picture>) -> Form
     }
 }
 
-// These dimensions, and that of the entry behind them.
+// These dimensions, and after them that of the entry.
 fn dims_with(
     alloc: Global,
     dims: &[Dim],
@@ -223,7 +223,7 @@ fn lay_item(alloc: Global, laid: &mut Laid, entry: &Entry, size: u32) -> Result<
     }
 }
 
-// Neither opens a group nor closes one.
+// Lays out an entry that neither opens a group nor closes one.
 fn lay_apart(alloc: Global, laid: &mut Laid, entry: &Entry, size: u32) -> Result<(), NoMemory>
     requires { length laid.old.roots < 2 ^ 32 }
     ensures { OnOk result (laid.new ≡ apart_laid laid.old entry.now size) }
@@ -233,7 +233,7 @@ fn lay_apart(alloc: Global, laid: &mut Laid, entry: &Entry, size: u32) -> Result
     Ok(())
 }
 
-// A level 88 lies where the item before it lies.
+// Lays out a level 88, which is where the item before it is.
 fn lay_condition(alloc: Global, laid: &mut Laid) -> Result<(), NoMemory>
     ensures { OnOk result (laid.new ≡ condition_laid laid.old (last_area laid.old.areas)) }
 {
@@ -269,7 +269,7 @@ fn lay(alloc: Global, laid: &mut Laid, entry: &Entry, size: u32) -> Result<(), N
     }
 }
 
-/// Where each item lies, and how long each root is. The faults of the entries aren't looked for.
+/// Where each item is, and how long each root is. Entries with faults aren't refused.
 pub fn layout(alloc: Global, entries: &[Entry]) -> Result<Areas, NoMemory>
     requires { length entries.now < 2 ^ 31 }
     ensures { Makes (layout_of entries.now) result }

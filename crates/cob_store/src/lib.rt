@@ -1,10 +1,10 @@
 //! Storage: a program's items as ranges of bytes (ISO 1989:1985, DATA DIVISION).
 //!
-//! `layout` says where each item lies: a root for each item that stands in no group and redefines
-//! none, and one for the records of a file. A `Store` has the bytes of each root; `reach` leads
-//! from a place of the program to its spot there, `get` and `put` read and write a number by its
-//! picture and sign, `bytes` and `put_bytes` anything. The definitions are total: what a program
-//! without faults never meets, as an entry that isn't there, has an answer too.
+//! `layout` says where each item is: a root for each item that is in no group and redefines none,
+//! and one for the records of a file. A `Store` has the bytes of each root; `reach` leads from a
+//! place of the program to its spot there, `get` and `put` read and write a number by its picture
+//! and sign, `bytes` and `put_bytes` anything. The definitions are total: what a program without
+//! faults never meets, such as a missing entry, has an answer too.
 #![tactic(auto)]
 
 mod area;

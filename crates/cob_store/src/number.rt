@@ -44,7 +44,7 @@ fn negative(number: Option<u64>) -> Option<i128>
     number.map(|digits| -i128::from(digits))
 }
 
-// The sign is within the last digit.
+// Reads a number with the sign within the last digit.
 fn within(bytes: &[u8]) -> Option<i128>
     ensures value { result ≡ within bytes.now }
     ensures short { IfSome result (λ z. unsigned_abs z < 2 ^ 64) }
@@ -58,7 +58,7 @@ fn within(bytes: &[u8]) -> Option<i128>
     }
 }
 
-// The sign stands beside the digits.
+// Reads a number with the sign separate from the digits.
 fn beside(sign: u8, digits: Option<u64>) -> Option<i128>
     ensures value { result ≡ beside sign digits }
     ensures short { IfSome result (λ z. unsigned_abs z < 2 ^ 64) }
@@ -93,7 +93,7 @@ pub fn number_in(signed: bool, sign: Sign, bytes: &[u8]) -> Option<i128>
 
 // ---- writing
 
-// The last digits of a number that has at most twenty.
+// Puts the last digits of a number of at most twenty digits.
 fn put_short(into: &mut [u8], number: u64)
     ensures { into.new ≡ padded (length into.old) number }
 {
@@ -106,7 +106,7 @@ fn put_short(into: &mut [u8], number: u64)
     }
 }
 
-// The same of any number, in longer arithmetic.
+// The same for any number, in longer arithmetic.
 fn put_long(into: &mut [u8], number: u128)
     ensures { into.new ≡ padded (length into.old) number }
 {
@@ -119,7 +119,7 @@ fn put_long(into: &mut [u8], number: u128)
     }
 }
 
-/// The last digits of a number, as many as there are places.
+/// Puts the last digits of a number, as many as fit.
 pub fn put_digits(into: &mut [u8], number: u128)
     ensures { into.new ≡ padded (length into.old) number }
 {
@@ -135,7 +135,7 @@ fn sign_byte(minus: bool) -> u8
     if minus { b'-' } else { b'+' }
 }
 
-// The digits of a negative number, whose last digit has the sign.
+// Puts the digits of a negative number, the last digit with the sign.
 fn put_overpunched(into: &mut [u8], number: u128)
     ensures { into.new ≡ overpunched (length into.old) number }
 {
@@ -165,7 +165,7 @@ fn put_trailing(into: &mut [u8], minus: bool, number: u128)
     }
 }
 
-/// The bytes of a number, below zero or not, in an item that is signed or not.
+/// Puts a number, `minus` where it is negative, in an item that is signed or not.
 pub fn put_signed(into: &mut [u8], signed: bool, sign: Sign, minus: bool, number: u128)
     ensures { into.new ≡ signed_bytes signed sign (length into.old) minus number }
 {

@@ -1,4 +1,4 @@
-//! Where places are, and what operands and expressions are worth.
+//! Where places are, and the values of operands and expressions.
 
 ghost use Rattle.std.specs.Prelude.{◌≡◌, ◌<◌, ◌^◌, IfSome, Some, map, slice_get, unsigned_abs};
 ghost use Rattle.cob_tree.specs.declared.place.Place.{out-Place};
@@ -32,8 +32,8 @@ fn signed_by(negative: bool, digits: u64) -> i128
     }
 }
 
-/// What an item of so many digits keeps of a number, aligned and cut, or `None` where the digits
-/// aren't 1 to 18.
+/// What an item with this number of digits before and after the point keeps of a number, aligned
+/// and cut, or `None` where it doesn't have 1 to 18 digits.
 pub fn kept(number: Dec, whole: u8, part: u8, rounded: bool) -> Option<Stored>
     ensures { result ≡ kept whole part rounded number }
 {
@@ -48,7 +48,7 @@ pub fn kept(number: Dec, whole: u8, part: u8, rounded: bool) -> Option<Stored>
     }
 }
 
-// How far a number from 1 to the count lies behind 1.
+// A number from 1 to the count, less 1; OutOfRange otherwise.
 fn offset_in(value: Option<Dec>, count: u32) -> Result<u32, Abend>
     ensures { result ≡ offset_in value count }
 {
@@ -69,7 +69,7 @@ fn occurrence(dim: Dim, start: u32, offset: u32) -> u32
     start.saturating_add(offset.saturating_mul(dim.stride))
 }
 
-// A place has at most three subscripts, so that they need no memory.
+// Adds an offset. A place has at most three subscripts, so their offsets need no allocation.
 fn keep_behind(offsets: &mut SmallVec<u32, 3>, offset: u32) -> Result<(), Abend>
     requires { offsets.old.capacity ≡ 3 }
     ensures kept { with_kept result offsets.new.items ≡ kept_behind offsets.old.items offset }
@@ -82,7 +82,7 @@ fn keep_behind(offsets: &mut SmallVec<u32, 3>, offset: u32) -> Result<(), Abend>
     Ok(())
 }
 
-// The start of the occurrence that lies by these offsets behind the first.
+// The start of the occurrence with these offsets from the first.
 fn occurrence_at(offsets: &[u32], dims: &[Dim], start: u32) -> u32
     ensures { result ≡ occurrence_at offsets.now dims.now start }
 {
@@ -154,7 +154,7 @@ pub fn whole_of(area: &Area) -> Spot
     }
 }
 
-// Whether no subscript is an item's value, and a window begins at a number.
+// Whether no subscript is an item's value, and the window, where there is one, begins at a number.
 fn has_numbers(place: &Place) -> bool {
     if !place.subs.as_slice().iter().all(|sub| sub.base.is_none()) {
         return false;
@@ -165,7 +165,7 @@ fn has_numbers(place: &Place) -> bool {
     }
 }
 
-// What is reached at a place whose spot is known.
+// The spot of a place and its form, where the spot is known.
 fn reached_before(area: &Area, place: &Place) -> Option<Reached>
     ensures { IfSome result (λ reached. LeadsTo area.now place.now reached) }
 {
@@ -305,7 +305,7 @@ pub fn place_value(areas: &[Area], store: &Store, place: &Place) -> Result<Optio
     number_at(store, place.spot, place.form)
 }
 
-/// The number that an operand is worth, or `None` where it is text.
+/// The value of an operand, or `None` where it is text.
 #[cycle(reach)]
 pub fn operand_value(areas: &[Area], store: &Store, operand: &Operand) -> Result<Option<Dec>, Abend>
     ensures { result ≡ operand_value operand.now (memory_of areas.now store.now) }
@@ -319,8 +319,8 @@ pub fn operand_value(areas: &[Area], store: &Store, operand: &Operand) -> Result
     }
 }
 
-/// The number that an expression is worth, or `None` where it has no value. All its operands are
-/// read before anything is computed.
+/// The value of an expression, or `None` where it has none. All its operands are read before
+/// anything is computed.
 #[cycle(reach)]
 pub fn expr_value(areas: &[Area], store: &Store, expr: &Expr) -> Result<Option<Dec>, Abend>
     ensures { result ≡ expr_value expr.now (memory_of areas.now store.now) }

@@ -10,8 +10,8 @@ use cob_base::{Items, NoMemory};
 use cob_tree::{Entry, Picture, Sign};
 use std::alloc::Global;
 
-/// An item with all its occurrences, among others behind one another. One that redefines adds
-/// nothing.
+/// An item with all its occurrences, in a row of items. One that redefines adds nothing to the
+/// size.
 #[derive(Clone, Copy, Debug)]
 pub struct SizedItem {
     pub depth: u8,
@@ -38,6 +38,7 @@ fn picture_size(picture: Picture, sign: Sign) -> u32
     }
 }
 
+/// Whether an entry is a condition name, of level 88.
 pub fn is_condition(entry: &Entry) -> bool
     ensures { result ≡ is_condition entry.now }
 {
@@ -54,12 +55,14 @@ fn is_bare(faulty: bool, entry: &Entry) -> bool
     }
 }
 
+/// Whether an entry is of level 77, which is in no group and holds none.
 pub fn is_apart(entry: &Entry) -> bool
     ensures { result ≡ is_apart entry.now }
 {
     entry.level == 77
 }
 
+/// A size, multiplied by the OCCURS clause; at most the largest `u32`.
 pub fn times(occurs: Option<u32>, size: u32) -> u32
     ensures { result ≡ times occurs size }
 {
@@ -87,7 +90,7 @@ fn size_by(picture: Option<Picture>, sign: Sign, bytes: u32) -> u32
     }
 }
 
-// Takes the pieces below an item, and answers their bytes.
+// Takes off the items within an item, and answers their bytes.
 fn take_inside(pieces: &mut Stack<SizedItem>, depth: u8) -> u32
     ensures bytes { result ≡ inside depth 0 pieces.old }
     ensures left { pieces.new ≡ behind depth pieces.old }
@@ -130,15 +133,15 @@ fn sizes_back(alloc: Global, entries: &[Entry], faulty: bool) -> Result<Stack<u3
     Ok(sizes)
 }
 
-/// The bytes of one occurrence of each entry, the first in front; a size past the last number of 32
-/// bits counts as that.
+/// The bytes of one occurrence of each entry, the first in front; a size is at most the largest
+/// `u32`.
 pub fn stacked_sizes(alloc: Global, entries: &[Entry]) -> Result<Stack<u32>, NoMemory>
     ensures { Makes (sized entries.now).sizes result }
 {
     sizes_back(alloc, entries, false)
 }
 
-// What is stacked, from the front on.
+// The elements of a stack, the top first.
 fn in_order(alloc: Global, mut stack: Stack<u32>) -> Result<Items<u32>, NoMemory>
     ensures { Makes stack result }
 {
@@ -149,7 +152,8 @@ fn in_order(alloc: Global, mut stack: Stack<u32>) -> Result<Items<u32>, NoMemory
     Ok(sizes)
 }
 
-/// The same of entries that may be faulty: one of a level that is none takes no bytes.
+/// The bytes of one occurrence of each entry, where entries may have faults: one with an invalid
+/// level takes no bytes.
 pub fn sizes_of(alloc: Global, entries: &[Entry]) -> Result<Items<u32>, NoMemory>
     ensures { Makes (judged.sized entries.now).sizes result }
 {

@@ -2,7 +2,7 @@
 
 use crate::area::Form;
 
-/// Bytes of a root that lie behind one another.
+/// Consecutive bytes of a root.
 #[derive(Clone, Copy, Debug, PartialEq, Eq)]
 pub struct Spot {
     pub root: u32,

@@ -14,6 +14,7 @@ use cob_num::Dec;
 use cob_tree::{Entry, Figure, Operand, Sign};
 use std::alloc::Global;
 
+/// The byte that a figure repeats.
 pub fn figure_byte(figure: Figure) -> u8
     ensures { result ≡ figure_byte figure }
 {
@@ -134,7 +135,7 @@ fn moved_by(spot: Spot, bytes: u32) -> Spot
     }
 }
 
-// The bytes in each occurrence of an item.
+// Puts what an item starts with into each of its occurrences.
 fn put_each(store: &mut Store, dims: &[Dim], spot: Spot, start: Start)
     ensures { store.new ≡ put_each dims.now spot (start_bytes spot.length start.entry) store.old }
 {
@@ -176,8 +177,8 @@ fn start_item(store: &mut Store, entry: &Entry, area: &Area)
     }
 }
 
-/// The store at the start of a run. Where several items lie over one byte, the first of them sets
-/// it, so the last is put first.
+/// The store at the start of a run, by VALUE clauses and pictures. Where several items share a
+/// byte, the first of them sets it, so the last is put first.
 pub fn initial(alloc: Global, entries: &[Entry], areas: &Areas) -> Result<Store, NoMemory>
     ensures { Makes (store_of entries.now areas.now) result }
 {

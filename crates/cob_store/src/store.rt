@@ -1,4 +1,4 @@
-//! What is stored.
+//! The store.
 
 ghost use Rattle.std.specs.Prelude.{◌≡◌, ◌+◌, ◌≤◌, length, replicate, take, drop, ◌<◌, ◌^◌, unsigned_abs, IfSome};
 ghost use Rattle.cob_base.specs.Answers.{Makes};
@@ -32,7 +32,7 @@ impl Model for Store {
     ghost view = { λ s. s.roots.items };
 }
 
-// So many bytes from one on, as far as there are.
+// So many bytes from a place on, as far as there are any.
 fn part(bytes: &[u8], start: usize, size: usize) -> &[u8]
     ensures { result.now ≡ take size (drop start bytes.now) }
 {
@@ -40,7 +40,7 @@ fn part(bytes: &[u8], start: usize, size: usize) -> &[u8]
     &behind[..size.min(behind.len())]
 }
 
-// Bytes from the left, cut, or padded with spaces.
+// Puts bytes from the left, cut, or padded with spaces.
 fn fit(into: &mut [u8], bytes: &[u8])
     ensures { into.new ≡ fitted (length into.old) bytes.now }
 {
@@ -78,7 +78,7 @@ fn put_number_at(
     put_signed(&mut root[start..start + size], signed, sign, minus, number);
 }
 
-/// The number of an item whose picture has so many decimal places.
+/// The number with so many decimal places, or BadDigits where there is none.
 pub fn number_of(number: Option<i128>, places: u8) -> Result<Dec, Abend>
     requires { IfSome number (λ z. unsigned_abs z < 2 ^ 64) }
     ensures { result ≡ number_of number places }
@@ -130,7 +130,7 @@ impl Store {
         Ok(Store { roots })
     }
 
-    /// The bytes at a spot.
+    /// The bytes at a spot, as far as the root has them.
     pub fn bytes(&self, spot: Spot) -> &[u8]
         ensures { result.now ≡ spot_bytes self.now spot }
     {
@@ -149,7 +149,7 @@ impl Store {
         }
     }
 
-    /// Puts bytes, cut or padded with spaces.
+    /// Puts bytes at a spot, cut or padded with spaces.
     pub fn put_bytes(&mut self, spot: Spot, bytes: &[u8])
         ensures { self.new ≡ put_at self.old spot (fitted spot.length bytes.now) }
     {
@@ -165,7 +165,7 @@ impl Store {
         }
     }
 
-    /// Puts one byte everywhere.
+    /// Fills a spot with one byte.
     pub fn put_filler(&mut self, spot: Spot, byte: u8)
         ensures { self.new ≡ put_at self.old spot (replicate spot.length byte) }
     {
@@ -181,7 +181,8 @@ impl Store {
         }
     }
 
-    /// Puts a number, below zero or not.
+    /// Puts a number at a spot, negative where `minus` says so, with the digits and the sign of an
+    /// item of this kind.
     pub fn put_number(&mut self, spot: Spot, signed: bool, sign: Sign, minus: bool, number: u128)
         ensures { self.new ≡ put_at self.old spot
             (signed_bytes signed sign spot.length minus number) }
@@ -201,7 +202,7 @@ impl Store {
         }
     }
 
-    /// The number at a spot of that form.
+    /// The number at a spot of that form; BadDigits where its bytes aren't digits and sign.
     pub fn value(&self, spot: Spot, form: Form) -> Result<Dec, Abend>
         ensures { result ≡ value_at self.now spot form }
     {
@@ -217,14 +218,15 @@ impl Store {
         }
     }
 
-    /// The number at a spot of that picture and sign.
+    /// The number at a spot of that picture and sign; BadDigits where its bytes aren't digits and
+    /// sign.
     pub fn get(&self, spot: Spot, picture: &Picture, sign: Sign) -> Result<Dec, Abend>
         ensures { result ≡ value_at self.now spot (form_with picture.now sign) }
     {
         self.value(spot, form_with(*picture, sign))
     }
 
-    /// Puts a number that was stored, as the digits and the sign of that picture.
+    /// Puts a number that was cut for storing, as the digits and the sign of that picture.
     pub fn put(&mut self, spot: Spot, picture: &Picture, sign: Sign, stored: Stored)
         ensures { self.new ≡ stored_at self.old spot (form_with picture.now sign) stored }
     {
@@ -238,8 +240,8 @@ impl Store {
     }
 
     /// The spot of a place, or the first fault on the way there: its subscripts from the left, each
-    /// read and then checked, then the start of its window, then its length. The areas have what
-    /// is asked of the entries.
+    /// read and then checked, then the start of its window, then its length. Everything that is
+    /// needed of the entries is in the areas.
     pub fn reach(&self, areas: &Areas, _entries: &[Entry], place: &Place) -> Result<Spot, Abend>
         ensures { result ≡ reach_of (memory_of areas.now.items self.now) place.now }
     {
@@ -247,7 +249,7 @@ impl Store {
         Ok(place.spot)
     }
 
-    /// The store at the start of a run.
+    /// The store at the start of a run: each item has its VALUE, or a value by its picture.
     pub fn initial(alloc: Global, areas: &Areas, entries: &[Entry]) -> Result<Store, NoMemory>
         ensures { Makes (store_of entries.now areas.now) result }
     {

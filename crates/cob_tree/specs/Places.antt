@@ -13,7 +13,7 @@ abbrev pub if_any : Option (List ℕ) → ℕ
 if_any None = 0
 if_any (Some counts) = sum counts
 
--- a statement is one, with those of the statements that it holds
+-- how many places one level of a statement takes: one, and those of the statements that it holds
 abbrev pub places_step : Stmt-F ℕ ℕ ℕ → ℕ
 places_step (Stmt-F.Arith calc into arms) = 1 + arms
 places_step (Stmt-F.Read file into arms) = 1 + arms
@@ -22,18 +22,23 @@ places_step (Stmt-F.Evaluate subject whens other) = 1 + sum whens + if_any other
 places_step (Stmt-F.Loop control body) = 1 + sum body
 places_step _ = 1
 
+-- those of a statement's arms
 abbrev pub arms_step : Arms-F ℕ ℕ ℕ → ℕ
 arms_step arms = if_any arms.first + if_any arms.second
 
+-- those of a WHEN
 abbrev pub when_step : When-F ℕ ℕ ℕ → ℕ
 when_step when = sum when.stmts
 
+-- how many places a statement has
 abbrev pub stmt_places : Stmt → ℕ
 stmt_places = fold-Stmt ℕ ℕ ℕ places_step arms_step when_step
 
+-- how many places a statement's arms have
 abbrev pub arms_places : Arms → ℕ
 arms_places = fold-Arms ℕ ℕ ℕ places_step arms_step when_step
 
+-- how many places a WHEN has
 abbrev pub when_places : When → ℕ
 when_places = fold-When ℕ ℕ ℕ places_step arms_step when_step
 

@@ -1,10 +1,10 @@
-//! What arithmetic statements work out, and where it goes.
+//! What arithmetic statements compute, and where the result goes.
 
 use crate::place::{Expr, Operand, Place};
 use cob_base::{Copied, Items, NoMemory};
 use std::alloc::Global;
 
-/// What an arithmetic statement works out.
+/// What an arithmetic statement computes.
 #[derive(Debug, Drop)]
 pub enum Calc {
     /// ADD .. TO the targets.

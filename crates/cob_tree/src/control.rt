@@ -16,7 +16,7 @@ pub enum Control {
         after: bool,
         cond: Cond,
     },
-    /// In boxes, so that other statements aren't as large.
+    /// Boxed, so that other statements aren't as large.
     Varying {
         after: bool,
         item: Boxed<Place>,

@@ -8,8 +8,7 @@ use crate::stmt::{Arms, Stmt, When};
 use cob_base::Items;
 
 impl Program {
-    /// The nesting, 0 where no statement holds statements; past the last number of the type that
-    /// number.
+    /// The nesting, 0 where no statement holds statements; at most the largest `u32`.
     pub fn depth(&self) -> u32
         ensures { result ≡ min (program_depth self.now) (2 ^ 32 - 1) }
     {

@@ -7,10 +7,10 @@ use cob_base::{Copied, NoMemory, Text};
 use std::alloc::Global;
 use std::marker::Model;
 
-/// The digits that a number can have.
+/// The most digits that a number can have.
 const MOST_DIGITS: usize = 18;
 
-/// Digits as they were written, with the number that they spell, which no run has to work out.
+/// Digits as they were written, with the number that they spell, so that no run has to compute it.
 /// Contracts see the digits alone.
 #[derive(Debug, Drop)]
 pub struct Digits {
@@ -28,6 +28,7 @@ impl Model for Digits {
 }
 
 impl Digits {
+    /// These digits, with the number that they spell.
     pub fn new(text: Text) -> Digits
         ensures { result ≡ text }
     {
@@ -35,13 +36,14 @@ impl Digits {
         Digits { text, number }
     }
 
+    /// The digits as bytes.
     pub fn as_slice(&self) -> &[u8]
         ensures { result.now ≡ self.now }
     {
         self.text.as_slice()
     }
 
-    /// The number, where these are at most 18 digits.
+    /// The number; none where there are more than 18 digits.
     pub fn number(&self) -> Option<u64>
         ensures { result ≡ digits_value self.now }
     {
@@ -79,13 +81,14 @@ impl Eq for Digits {
     ghost laws = { Prim.search (comparing, rules) };
 }
 
+/// Whether the byte is a digit.
 pub fn is_digit(byte: u8) -> bool
     ensures { result ≡ is_digit byte }
 {
     byte >= b'0' && byte <= b'9'
 }
 
-/// The number of at most 18 digits.
+/// The number that these digits spell; none where they are more than 18 or not digits.
 pub fn digits_value(bytes: &[u8]) -> Option<u64>
     ensures value { result ≡ digits_value bytes.now }
     ensures short { IfSome result (λ number. number < 10 ^ 18) }

@@ -11,12 +11,12 @@ pub enum Abend {
     /// A subscript or a window is outside its bounds, or an expression has no value.
     #[error("out of range")]
     OutOfRange,
-    /// A file operation came to this status, which nothing takes care of.
+    /// A file operation got this status, and the program doesn't handle it.
     #[error("file status {0}")]
     Io(u8),
 }
 
-/// A return that can't be made, with the paragraph at whose end it would be.
+/// A return that can't be made, with the paragraph at whose end it would be made.
 #[derive(Clone, Copy, Debug, PartialEq, Eq)]
 pub enum FlowFault {
     /// A pending range ends there, and the innermost one doesn't.

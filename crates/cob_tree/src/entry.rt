@@ -11,9 +11,9 @@ pub struct Entry {
     pub level: u8,
     /// None for FILLER.
     pub name: Option<Word>,
-    /// The file in whose FD it stands, by its place among the files.
+    /// The file to whose FD it belongs, by its place among the files.
     pub file: Option<u32>,
-    /// The entry whose bytes it names again.
+    /// The entry that it redefines.
     pub redefines: Option<u32>,
     pub picture: Option<Picture>,
     pub sign: Sign,

@@ -1,4 +1,4 @@
-//! What is wrong with a source, found by a part.
+//! What is wrong with a source, as the parts that read it find.
 
 use cob_base::{Limit, NoMemory};
 use thiserror::Error;

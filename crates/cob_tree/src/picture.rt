@@ -6,7 +6,7 @@ use std::alloc::Global;
 /// A picture (ISO 1989:1985, PICTURE clause).
 #[derive(Clone, Copy, Debug, PartialEq, Eq)]
 pub enum Picture {
-    /// Digits: so many before the decimal point, so many behind it.
+    /// Digits: so many before the decimal point, so many after it.
     Number { signed: bool, whole: u8, part: u8 },
     /// So many letters.
     Letters(u32),
@@ -14,14 +14,14 @@ pub enum Picture {
     Any(u32),
 }
 
-/// Where the sign of a number stands (SIGN clause).
+/// Where the sign of a number is (SIGN clause).
 #[derive(Clone, Copy, Debug, PartialEq, Eq)]
 pub enum Sign {
     /// Within the last digit.
     Within,
     /// A character of its own before the digits.
     SeparateLeading,
-    /// A character of its own behind the digits.
+    /// A character of its own after the digits.
     SeparateTrailing,
 }
 

@@ -1,7 +1,7 @@
 //! Places of data, and expressions over them.
 //!
-//! A place may have subscripts and a window whose expressions lead to places again, so their
-//! copies are functions of one cycle.
+//! A place may have subscripts and a window, whose expressions hold places again, so the functions
+//! that copy them call each other.
 
 ghost use Rattle.cob_base.specs.Answers.{Makes};
 
@@ -13,7 +13,7 @@ use std::alloc::Global;
 #[cycle(place)]
 #[derive(Debug, Drop)]
 pub struct Place {
-    /// The entry, by its place among the entries; from 2^31 on an added item.
+    /// The entry, by its place among the entries; from 2^31 upward an added item.
     pub item: u32,
     /// The names of its qualification, as they were written.
     pub of: Items<Word>,

@@ -1,4 +1,4 @@
-//! How many places a program has.
+//! How many statements, sentences and paragraphs a program has.
 
 ghost use Rattle.std.specs.Prelude.{◌≡◌, ◌-◌, ◌^◌, min, sum_by};
 ghost use Rattle.cob_tree.specs.Places.{program_places, paragraph_places, sentence_places, stmt_places, arms_places, when_places};
@@ -8,8 +8,7 @@ use crate::stmt::{Arms, Stmt, When};
 use cob_base::Items;
 
 impl Program {
-    /// Statements, nested ones included, sentences and paragraphs; past the last number of the type
-    /// that number.
+    /// Statements, nested ones included, sentences and paragraphs; at most the largest `u64`.
     pub fn places(&self) -> u64
         ensures { result ≡ min (program_places self.now) (2 ^ 64 - 1) }
     {

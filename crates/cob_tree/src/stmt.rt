@@ -1,6 +1,6 @@
 //! Statements.
 //!
-//! A statement may hold statements, so its copies are functions of one cycle.
+//! A statement may hold statements, so the functions that copy them call each other.
 
 ghost use Rattle.cob_base.specs.Answers.{Makes};
 
@@ -21,7 +21,7 @@ pub struct Arms {
     pub second: Option<Items<Stmt>>,
 }
 
-/// Phrases WHEN of EVALUATE that share their statements; one test that holds is enough.
+/// WHEN phrases of EVALUATE that share their statements; one test that holds is enough.
 #[cycle(stmt)]
 #[derive(Debug, Drop)]
 pub struct When {

@@ -2,5 +2,5 @@
 pub mod Lists
 -- Words by number.
 pub mod Table
--- Words with a number behind them: `RX-PARA-1`, or the names of a generated program.
+-- Words with a number after them: `RX-PARA-1`, or the names of a generated program.
 pub mod numbered

@@ -7,6 +7,6 @@ use Rattle.std.specs.Str.{bytes_eq}
 abbrev pub number_in : List (List ℕ) → List ℕ → ℕ
 number_in words word = unwrap_or (position (bytes_eq word) words) (length words)
 
--- the words with this one, which is added behind them where it isn't there
+-- the words with this one, which is added after them where it isn't there
 abbrev pub with_word : List (List ℕ) → List ℕ → List (List ℕ)
 with_word words word = if list_any (bytes_eq word) words then words else words ++ word ∷ []

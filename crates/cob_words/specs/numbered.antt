@@ -1,2 +1,2 @@
--- what stands before a number
+-- what comes before a number
 pub mod Stem

@@ -6,7 +6,7 @@ ghost use Rattle.cob_words.specs.Lists.{reserved_words, left_out_words, is_liste
 
 use cob_base::Word;
 
-/// The reserved words, those of each length in a row, in the alphabet's order.
+/// The reserved words, by their length and in alphabetical order.
 const RESERVED: [&[&str]; 16] = [
     &[],
     &[],

@@ -1,7 +1,7 @@
-//! Words with a number behind them: `RX-PARA-1`, or the names of a generated program.
+//! Words with a number after them: `RX-PARA-1`, or the names of a generated program.
 //!
-//! A stem (`specs/numbered/Stem`) is what stands before the number. Hold it against ISO 1989:1985,
-//! COBOL words: letters, digits and hyphens, neither first nor last a hyphen.
+//! A stem (`specs/numbered/Stem`) is what comes before the number. It is to be compared with ISO
+//! 1989:1985, COBOL words: letters, digits and hyphens, neither first nor last a hyphen.
 
 ghost use Rattle.std.specs.Prelude.{◌≡◌, ◌++◌};
 ghost use Rattle.std.specs.Fmt.{decimal};
@@ -23,7 +23,7 @@ pub fn capital_word(bytes: &[u8]) -> Word
     }
 }
 
-/// Bytes with the decimal digits of a number behind them, without leading zeros.
+/// Bytes with the decimal digits of a number after them, without leading zeros.
 pub fn numbered_text(alloc: Global, stem: &[u8], number: u32) -> Result<Text, NoMemory>
     ensures { Makes (stem.now ++ decimal number) result }
 {
@@ -33,7 +33,7 @@ pub fn numbered_text(alloc: Global, stem: &[u8], number: u32) -> Result<Text, No
     Ok(Text { bytes })
 }
 
-/// The word of a stem with a number behind it.
+/// The word of a stem with a number after it.
 pub fn numbered(alloc: Global, stem: &[u8], number: u32) -> Result<Word, NoMemory>
     requires { IsStem stem.now }
     ensures { Makes (stem.now ++ decimal number) result }

@@ -13,7 +13,7 @@ use std::marker::Model;
 
 /// Words, each with the number of those that were added before it.
 ///
-/// A contract sees a table as the list of its words, in the order of their numbers.
+/// Contracts see a table as the list of its words, in the order of their numbers.
 #[derive(Drop)]
 pub struct WordTable {
     words: IndexSet<Word>,
@@ -30,6 +30,7 @@ impl Model for WordTable {
 }
 
 impl WordTable {
+    /// A table without words.
     pub fn new(alloc: Global) -> WordTable
         ensures { result ≡ [] }
     {
@@ -38,7 +39,7 @@ impl WordTable {
         }
     }
 
-    /// How many words there are. No word stands twice.
+    /// How many words there are. All words are different.
     pub fn len(&self) -> usize
         ensures value { result ≡ length self.now }
         ensures apart { AllPairs (λ a b. a ≢ b) self.now }
@@ -65,7 +66,7 @@ impl WordTable {
 
     /// The number of a word, which is the next one where the table doesn't have it yet.
     ///
-    /// `NoMemory` changes nothing.
+    /// At `NoMemory` the table stays.
     pub fn add(&mut self, word: Word) -> Result<u32, NoMemory>
         requires { length self.old < 2 ^ 32 }
         ensures number { Makes (number_in self.old word) result }

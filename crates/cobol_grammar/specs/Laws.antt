@@ -16,8 +16,10 @@ use Rattle.cobol_grammar.specs.Whole.{parts_of, division}
 -- each form reads what it spells and nothing else, and stops at the first token up to which the
 -- tokens are not cut
 pub record GrammarIsRead : Type 0 where
+  -- the form of statements
   pub stmts : (names : Names) (entries : List Entry) (table : ProcedureTable)
       (levels : ℕ) (scope : Scope) → IsReader (stmts (parts_of names entries table) levels scope)
+  -- the form of the PROCEDURE DIVISION
   pub division : (names : Names) (entries : List Entry) (tokens : List Token) (from : ℕ) →
       IsReader (division names entries tokens from)
 

@@ -25,6 +25,7 @@ use Rattle.symbol_tables.specs.procedure_names.Procedures as procedures
 
 -- ---- files
 
+-- a name that no file has is unknown
 abbrev pub file_fault : Option ℕ → Position → Option Note
 file_fault None position = fault_at faults.Unknown position
 file_fault (Some file) position = None
@@ -38,6 +39,7 @@ file names = do
 
 -- ---- records
 
+-- the entry is of level 01 and of a file
 abbrev pub is_record_entry : Option Entry → Bool
 is_record_entry None = false
 is_record_entry (Some entry) = entry.level == 1 && is_some entry.file
@@ -46,13 +48,15 @@ is_record_entry (Some entry) = entry.level == 1 && is_some entry.file
 abbrev pub is_record : List Entry → ℕ → Bool
 is_record entries item = is_record_entry (slice_get entries item)
 
+-- what is wrong with a name where a record is written: it is unknown or ambiguous, or isn't one of
+-- a record
 abbrev pub record_fault : List Entry → Referent → Position → Option Note
 record_fault entries found.Unknown position = fault_at faults.Unknown position
 record_fault entries found.Ambiguous position = fault_at faults.Ambiguous position
 record_fault entries (found.Item item kind dims) position =
     if is_record entries item then None else usage position
 
--- of what is no record nothing is known
+-- what was found, where it is a record; of anything else nothing is known
 abbrev pub as_record : List Entry → Referent → Referent
 as_record entries found.Unknown = found.Unknown
 as_record entries found.Ambiguous = found.Unknown
@@ -73,13 +77,15 @@ abbrev pub name_next : Option TokenKind → Option (List ℕ)
 name_next None = None
 name_next (Some kind) = procedures.header_name kind
 
+-- the name has 1 to 30 bytes
 abbrev pub is_short : List ℕ → Bool
 is_short name = nat_lt 0 (length name) && nat_le (length name) 30
 
+-- the name is of capitals, digits and hyphens
 abbrev pub is_capital : List ℕ → Bool
 is_capital name = list_all word_byte name && bytes_eq (folded name) name
 
--- no hyphen stands first or last
+-- no hyphen comes first or last
 abbrev pub is_bounded : List ℕ → Bool
 is_bounded name =
     not (slice_index name 0 == hyphen) && not (slice_index name (length name - 1) == hyphen)

@@ -19,7 +19,7 @@ use Rattle.cobol_grammar.specs.declared.expr_forms.side.ParsedExpr.TheVariants a
 use Rattle.cobol_grammar.specs.expr_forms.Fault.{usage, inexact_fault, compared_as, item_kind}
 use Rattle.cobol_grammar.specs.declared.subject_kind.SubjectKind.{SubjectKind}
 
--- ---- what stands in the tree
+-- ---- what is in the tree
 
 -- an item without qualifiers, subscripts and window
 abbrev pub bare_place : ℕ → Place
@@ -32,13 +32,14 @@ operand_of (whats.Literal operand) = operand
 operand_of (whats.Enclosed place) = operands.Place place
 operand_of (whats.Sum expr) = operands.Figure figures.Zero
 
--- every reference is a place
+-- the place of a reference; no other side is asked for one
 abbrev pub place_of : ParsedExpr → Place
 place_of (whats.Ref place) = place
 place_of (whats.Literal operand) = bare_place 0
 place_of (whats.Enclosed place) = place
 place_of (whats.Sum expr) = bare_place 0
 
+-- the number of the entry that a reference names
 abbrev pub entry_of : ParsedExpr → ℕ
 entry_of (whats.Ref place) = (out-Place place).item
 entry_of (whats.Literal operand) = 0
@@ -47,6 +48,7 @@ entry_of (whats.Sum expr) = 0
 
 -- ---- moves
 
+-- a usage fault, unless it is whole
 abbrev pub unless_whole : (whole : Bool) → Position → Option Note
 unless_whole whole position = if whole then None else usage position
 
@@ -66,16 +68,17 @@ abbrev pub figure_moved : (to : ValueKind) → Position → Option Note
 figure_moved (kinds.Number whole) position = usage position
 figure_moved _ position = None
 
--- the fault of a move, which stands at the position
+-- the fault of a move, which is at the position
 abbrev pub moved_fault : ExprContent → (from to : ValueKind) → Position → Option Note
 moved_fault make (kinds.Number whole) to position = number_moved make whole to position
 moved_fault make kinds.Figure to position = figure_moved to position
 moved_fault make _ to position = None
 
--- it stands at the sender
+-- what is wrong with a move from the one to the other; the fault is at the sender
 abbrev pub move_fault : (from to : Side) → Option Note
 move_fault from to = moved_fault from.make from.kind to.kind from.position
 
+-- the entry is of this file
 abbrev pub is_of_file : ℕ → Option ℕ → Bool
 is_of_file file None = false
 is_of_file file (Some other) = other == file
@@ -86,7 +89,7 @@ record_kind [] file = kinds.Unknown
 record_kind (entry ∷ behind) file =
     if is_of_file file entry.file then item_kind (kind_of entry behind) else record_kind behind file
 
--- READ INTO moves the file's first record; the fault stands at the receiver
+-- what is wrong with READ INTO, which moves the file's first record; the fault is at the receiver
 abbrev pub into_fault : List Entry → (file : Option ℕ) → (to : Side) → Option Note
 into_fault entries None to = None
 into_fault entries (Some file) to =
@@ -94,9 +97,11 @@ into_fault entries (Some file) to =
 
 -- ---- EVALUATE
 
+-- what is known of a subject, for what it is compared with
 abbrev pub known_of : Side → SubjectKind
 known_of side = record { kind = side.kind; make = side.make; position = side.position }
 
+-- what is wrong with a subject of this kind and a value of that kind
 abbrev pub compared_fault : ValueKind → ValueKind → SubjectKind → Side → Option Note
 compared_fault kinds.Text (kinds.Number whole) known side =
     inexact_fault side.make side.kind side.position

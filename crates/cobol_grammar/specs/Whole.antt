@@ -53,7 +53,7 @@ parts_of names entries table = record {
   subject_fault = λ known side. uses.subject_fault known side;
 }
 
--- the procedure division of these tokens, behind so many of them, with the procedures that they
+-- the procedure division of these tokens, after so many of them, with the procedures that they
 -- declare themselves
 abbrev pub division : Names → List Entry → List Token → ℕ → Form (List Paragraph)
 division names entries tokens from =

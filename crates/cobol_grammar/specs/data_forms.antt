@@ -8,5 +8,5 @@ pub mod Entry
 pub mod Environment
 -- FD and the DATA DIVISION.
 pub mod Data
--- All that stands before the PROCEDURE DIVISION.
+-- All that comes before the PROCEDURE DIVISION.
 pub mod Divisions

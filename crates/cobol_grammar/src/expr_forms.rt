@@ -2,8 +2,8 @@
 //! (ISO 1989:1985, identifiers and arithmetic expressions), which gives what they are in the tree,
 //! what is known of them, and the first fault of a name in them.
 //!
-//! Hold `Reference` to `FirstInParens` of `specs/expr_forms` against the grammar in
-//! docs/LANGUAGE.md, `Fault` against the uses that it lists. `expressions_are_read` says that each
+//! `Reference` to `FirstInParens` of `specs/expr_forms` are to be compared with the grammar in
+//! docs/LANGUAGE.md, `Fault` with the uses that it lists. `expressions_are_read` says that each
 //! form reads what it spells and nothing else, and stops at the first fault; `parentheses_only_add`
 //! that more levels of parentheses only add. The crate has no code that reads.
 

@@ -8,8 +8,8 @@ pub fn grammar_is_read()
     ensures { GrammarIsRead }
 {}
 
-/// A subject of EVALUATE is compared as the sides of a relation are, but for two literals, which
-/// may be compared there.
+/// A subject of EVALUATE is compared as the sides of a relation are, except that two literals may
+/// be compared there.
 pub fn subjects_are_compared()
     ensures { SubjectsAreCompared }
 {}

@@ -3,10 +3,10 @@
 //! as `symbol_tables::data_names` finds them, and procedures as `symbol_tables::procedure_names`
 //! finds them.
 //!
-//! Hold `specs/Use` against the uses of operands that docs/LANGUAGE.md lists, `specs/Name` against
-//! names of files, records and procedures. `grammar_is_read` says that statements and the whole
-//! division read what they spell and nothing else, and stop at the first fault. The crate has no
-//! code that reads.
+//! `specs/Use` is to be compared with the uses of operands that docs/LANGUAGE.md lists,
+//! `specs/Name` with names of files, records and procedures. `grammar_is_read` says that statements
+//! and the whole division read what they spell and nothing else, and stop at the first fault. The
+//! crate has no code that reads.
 #![tactic(auto)]
 
 pub mod cond_forms;

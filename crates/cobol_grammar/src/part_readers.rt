@@ -1,9 +1,9 @@
 //! Readers of what statements are made of (`Parts`), and what several kinds of statements read by
-//! them: numbers and names of procedures, and which verb is next. The crates above let what they
-//! read go, and add to lists of it, by the calls of `drops` and `lists`.
+//! them: numbers and names of procedures, and which verb is next. The crates above drop what they
+//! read, and add to lists of it, by the calls of `drops` and `lists`.
 //!
 //! Each function reads exactly by the form of its name in `stmt_forms` (ISO 1989:1985, PROCEDURE
-//! DIVISION), which is said by `Reads`: what it takes and makes, and where and why it stops.
+//! DIVISION), as `Reads` says: what it takes and makes, and where and why it stops.
 
 mod drops;
 mod lists;

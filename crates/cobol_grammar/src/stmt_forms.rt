@@ -2,8 +2,8 @@
 //! section (ISO 1989:1985, PROCEDURE DIVISION), over forms of operands, references, conditions and
 //! names that are left open (`specs/stmt_forms/Part.antt`).
 //!
-//! `statements_are_read` says of them, whatever lawful forms they stand on, that each reads what it
-//! spells and nothing else, and stops at the first fault. The crate has no code that reads.
+//! `statements_are_read` says of them, whatever lawful forms they are built on, that each reads
+//! what it spells and nothing else, and stops at the first fault. The crate has no code that reads.
 
 mod head;
 mod laws;

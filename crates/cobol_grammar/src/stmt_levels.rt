@@ -1,4 +1,4 @@
-//! What the limit on nested statements does to what is read of them.
+//! How the limit on nested statements changes what is read.
 //!
 //! `levels_only_add` holds for the statements of `stmt_forms` over any lawful forms of operands,
 //! references, conditions and names. The crate has no code that reads.
@@ -13,8 +13,8 @@ ghost use Rattle.cobol_grammar.specs.stmt_forms.Stmt.{stmts};
 use crate::stmt_forms::Made;
 
 /// With more levels statements are read as with fewer, and stop as they do or, where they stopped
-/// because they are nested too deep, at that token or behind it. So the first token past the limit
-/// is the one that is told.
+/// because they are nested too deep, at that token or after it. So the token that is reported is
+/// the first one past the limit.
 pub fn levels_only_add<Side, Known, M: Made<Side, Known>>()
     ensures { PartsAreLawful M.parts → (m n : ℕ) → m ≤ n → (scope : Scope) →
         OnlyAdds (count_of Nesting) (stmts M.parts m scope) (stmts M.parts n scope) }

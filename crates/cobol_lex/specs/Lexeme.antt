@@ -32,13 +32,15 @@ mark_lexeme line b rest =
     else if is_mark b then lexeme_of 1 (Ok (kind.Mark b))
     else Err (error.Fault (fault.BadWord line))
 
+-- the number that this run is, with its bytes
 abbrev pub number_lexeme : (line : ℕ) → (run : List ℕ) → Result Lexeme LexError
 number_lexeme line run = lexeme_of (length run) (number_kind line run)
 
+-- the word that this run is, with its bytes
 abbrev pub word_lexeme : (line : ℕ) → (run : List ℕ) → Result Lexeme LexError
 word_lexeme line run = lexeme_of (length run) (word_kind line run)
 
--- the token that begins the text where no picture comes, behind the byte before
+-- the token that begins the text where no picture comes, after the byte before
 abbrev pub plain_lexeme : (before line : ℕ) → List ℕ → Result Lexeme LexError
 plain_lexeme before line [] = Err (error.Fault (fault.BadWord line))
 plain_lexeme before line (b ∷ rest) =
@@ -47,7 +49,7 @@ plain_lexeme before line (b ∷ rest) =
     else if is_letter b then word_lexeme line (word_run (b ∷ rest))
     else mark_lexeme line b rest
 
--- the token that begins the text, behind the byte before and the tokens before
+-- the token that begins the text, after the byte before and the tokens before
 abbrev pub next_lexeme : Awaits → (before line : ℕ) → List ℕ → Result Lexeme LexError
 next_lexeme awaits before line bytes =
     if awaits_picture awaits bytes then picture_lexeme line (picture_run bytes)

@@ -10,7 +10,7 @@ pub mod Picture
 -- The token that begins a text, and all of its tokens: `tokens_of`.
 pub mod Lexeme
 pub mod Token
--- How tokens are written, and texts in which they stand.
+-- How tokens are written, and texts that hold them.
 pub mod Written
 pub mod Laid
 -- What holds of the tokens of every text.

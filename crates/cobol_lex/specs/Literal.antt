@@ -18,7 +18,7 @@ with_byte b taken None = None
 with_byte b taken (Some quoted) =
     Some (record { value = b ∷ quoted.value; taken = taken + quoted.taken })
 
--- what a literal has behind its opening mark, where the mark twice stands for it once; none where a
+-- what a literal has after its opening mark, where the mark twice stands for it once; none where a
 -- line or the text ends before the closing mark
 abbrev pub quoted_by : (mark : ℕ) → List ℕ → Option Quoted
 quoted_by mark [] = None
@@ -28,7 +28,7 @@ quoted_by mark (b ∷ c ∷ rest) =
     else if b == line_feed then None
     else with_byte b 1 (quoted_by mark (c ∷ rest))
 
--- the token of a literal, by what it has behind its opening mark: 1 to 160 bytes
+-- the token of a literal, by what it has after its opening mark: 1 to 160 bytes
 abbrev pub quoted_lexeme : (line : ℕ) → Option Quoted → Result Lexeme LexError
 quoted_lexeme line None = Err (error.Fault (fault.OpenLiteral line))
 quoted_lexeme line (Some quoted) =

@@ -22,10 +22,11 @@ less_last kind run =
 abbrev pub filled_run : List ℕ → List ℕ
 filled_run bytes = take_while (λ b. not (is_white b)) bytes
 
--- the same, less one last `.`, `,` or `;`
+-- the bytes of a picture: the run that begins here, less one last `.`, `,` or `;`
 abbrev pub picture_run : List ℕ → List ℕ
 picture_run bytes = less_last ends_picture (filled_run bytes)
 
+-- the picture of these bytes; none is a fault
 abbrev pub picture_lexeme : (line : ℕ) → List ℕ → Result Lexeme LexError
 picture_lexeme line [] = Err (error.Fault (fault.BadWord line))
 picture_lexeme line (b ∷ rest) =

@@ -23,7 +23,7 @@ after_lexeme (Ok lexeme) follows = follows lexeme
 after_lexeme (Err fault) follows = Err fault
 
 -- The tokens of what is left of a text, of which the first bytes belong to the token before.
--- `before` is the byte that stands before what is left.
+-- `before` is the byte that comes before what is left.
 abbrev pub tokens_from : (taken : ℕ) → Awaits → (before : ℕ) → List Placed →
     Result (List Token) LexError
 tokens_from taken awaits before [] = Ok []
@@ -34,6 +34,6 @@ tokens_from zero awaits before (p ∷ rest) =
     with_token (record { kind = lexeme.kind; line = p.line })
     (tokens_from (lexeme.length - 1) (awaits_behind awaits lexeme.kind) p.byte rest))
 
--- the tokens of a text, or its first fault; before the text stands no byte that lets a sign count
+-- the tokens of a text, or its first fault; before the text there is no byte that lets a sign count
 abbrev pub tokens_of : List Placed → Result (List Token) LexError
 tokens_of text = tokens_from 0 awaits.Any 0 text

@@ -57,12 +57,15 @@ pub record AreDigits (digits : List ℕ) : Type 0 where
   pub few : length digits ≤ 18
   pub digits_only : list_all is_digit digits ≡ true
 
--- nothing in a picture ends it, it doesn't begin as what stands between tokens, nor end in `.`, `,`
+-- nothing in a picture ends it, it doesn't begin as what is between tokens, nor end in `.`, `,`
 -- or `;`
 pub record IsPicture (picture : List ℕ) : Type 0 where
   pub some : 0 < length picture
+  -- no space is in it
   pub filled : list_all (λ b. not (is_white b)) picture ≡ true
+  -- it doesn't begin with a separator
   pub begun : is_separator (slice_index picture 0) ≡ false
+  -- it doesn't end in `.`, `,` or `;`
   pub ended : ends_picture (slice_index picture (length picture - 1)) ≡ false
 
 -- a token that a text can have where no picture comes
@@ -76,7 +79,7 @@ IsPlainToken (kind.Picture picture) = ⊥
 IsPlainToken (kind.Mark b) = is_mark b ≡ true
 IsPlainToken _ = Unit {0}
 
--- a token that a text can have behind the tokens before
+-- a token that a text can have after the tokens before
 abbrev pub IsLawful : Awaits → TokenKind → Type 0
 IsLawful awaits.Any token = IsPlainToken token
 IsLawful awaits.PictureOrIs (kind.Word word) = word ≡ codes "IS"
@@ -85,15 +88,15 @@ IsLawful awaits.PictureOrIs (kind.Picture picture) =
 IsLawful awaits.Picture (kind.Picture picture) = IsPicture picture
 IsLawful _ _ = ⊥
 
--- tokens that a text can have, behind the tokens before
+-- tokens that a text can have, after the tokens before
 abbrev pub AreLawful : Awaits → List Token → Type 0
 AreLawful awaits [] = Unit {0}
 AreLawful awaits (token ∷ tokens) =
     IsLawful awaits token.kind × AreLawful (awaits_behind awaits token.kind) tokens
 
--- ---- what may stand round it
+-- ---- what may be round it
 
--- what stands behind a token may run on with it: a letter, digit, hyphen, `"`, `=`, `*`, or a
+-- what follows a token may run on with it: a letter, digit, hyphen, `"`, `=`, `*`, or a
 -- period before a digit
 abbrev pub runs_on : List ℕ → Bool
 runs_on rest =
@@ -105,7 +108,7 @@ abbrev pub stands_alone : ℕ → Bool
 stands_alone b =
     b == left_parenthesis || b == right_parenthesis || b == colon || b == slash || b == equal_sign
 
--- a sign that this token may begin with counts behind this byte
+-- a sign that this token may begin with counts after this byte
 abbrev pub SignCounts : (before : ℕ) → TokenKind → Type 0
 SignCounts before (kind.Decimal number) = leads_sign before ≡ true
 SignCounts before _ = Unit {0}
@@ -126,7 +129,7 @@ ends_picture_run (b ∷ rest) = is_white b || ends_picture b && is_open rest
 abbrev pub placed_on : (line : ℕ) → ℕ → Placed
 placed_on line b = record { byte = b; line = line }
 
--- the tokens as text, each behind a space
+-- the tokens as text, each after a space
 abbrev pub written_text : List Token → List Placed
 written_text [] = []
 written_text (token ∷ tokens) =

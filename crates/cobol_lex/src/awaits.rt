@@ -1,4 +1,4 @@
-//! What the tokens before say of the next one.
+//! What the tokens before say about the next one.
 
 ghost use Rattle.std.specs.Prelude.{◌≡◌};
 ghost use Rattle.cobol_lex.specs.Awaits.{awaits_picture, awaits_behind};
@@ -10,9 +10,9 @@ use crate::word::{is_is, word_run};
 #[derive(Clone, Copy, Debug, PartialEq, Eq)]
 pub enum Awaits {
     Any,
-    /// Behind PIC or PICTURE.
+    /// After PIC or PICTURE.
     PictureOrIs,
-    /// Behind the word IS that follows PIC or PICTURE.
+    /// After the word IS that follows PIC or PICTURE.
     Picture,
 }
 
@@ -27,7 +27,7 @@ pub fn awaits_picture(awaits: Awaits, bytes: &[u8]) -> bool
     }
 }
 
-/// What comes behind a token.
+/// What may come after a token.
 pub fn awaits_behind(awaits: Awaits, kind: &TokenKind) -> Awaits
     ensures { result ≡ awaits_behind awaits kind.now }
 {

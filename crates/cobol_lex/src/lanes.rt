@@ -1,4 +1,4 @@
-//! How many of sixteen bytes, from the first on, are of a kind.
+//! How many of sixteen bytes, counted from the first, are of one kind.
 
 ghost use Rattle.std.specs.Prelude.{◌≡◌, ◌≤◌, ◌==◌, length};
 ghost use Rattle.cob_base.specs.Bytes.{space};
@@ -7,7 +7,7 @@ ghost use Rattle.cobol_lex.specs.Lanes.{IsRunIn, first_set};
 
 use std::simd::prelude::*;
 
-/// The place of the lowest bit that is set, or 16.
+/// The place of the lowest set bit, or 16.
 fn first_set(mask: u64) -> usize
     ensures { result ≡ first_set mask }
 {

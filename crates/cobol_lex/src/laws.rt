@@ -3,18 +3,18 @@
 ghost use Rattle.cobol_lex.specs.Laws.{LaidReadsBack, PictureReadsBack, TextReadsBack, TokenReadsBack};
 ghost use Rattle.cobol_lex.specs.Laws.{TokenLinesRise, TokensCover};
 
-/// The lines of the tokens rise where those of the text do.
+/// The line numbers of the tokens never decrease, where those of the text don't.
 pub fn token_lines_rise()
     ensures { TokenLinesRise }
 {}
 
-/// The text is the tokens, in order, with separators alone before each and behind the last.
+/// The text is the tokens, in order, with nothing but separators before each and after the last.
 pub fn tokens_cover()
     ensures { TokensCover }
 {}
 
 /// A token in its own spelling is read back, whatever follows that doesn't run on with it; a number
-/// with a sign or a period stands behind a space, LF, `(`, `:`, `,` or `;`.
+/// with a sign or a period comes after a space, LF, `(`, `:`, `,` or `;`.
 pub fn token_reads_back()
     ensures { TokenReadsBack }
 {}

@@ -65,7 +65,7 @@ fn plain_lexeme(alloc: Global, before: u8, line: u32, bytes: &[u8]) -> Result<Le
     }
 }
 
-/// The token that begins the text, behind the byte and the tokens before.
+/// The token that begins the text, after the byte and the tokens that come before it.
 pub fn next_lexeme(
     alloc: Global,
     awaits: Awaits,

@@ -1,10 +1,11 @@
 //! Program text to tokens.
 //!
 //! `tokens` reads words, numbers, literals, pictures and marks, each with the line on which it
-//! begins. Hold `tokens_of` against ISO 1989:1985, Reference Format and Character-Strings. That the
-//! definition is right is said by laws: what is written as a token is read back in any lay-out
-//! (`laid_reads_back`), nothing but separators stands round tokens (`tokens_cover`), and their
-//! lines rise (`token_lines_rise`). That `tokens` succeeds where memory is ample is tested.
+//! begins. `tokens_of` is to be compared with ISO 1989:1985, Reference Format and
+//! Character-Strings. These laws support it: what is written as a token is read back in any layout
+//! (`laid_reads_back`), there is nothing but separators around tokens (`tokens_cover`), and their
+//! lines never decrease (`token_lines_rise`). That `tokens` succeeds where memory is ample is
+//! tested.
 #![tactic(auto)]
 
 mod awaits;
@@ -40,8 +41,8 @@ pub use token::{Token, TokenKind};
 
 /// The tokens of a program text, or its first fault, with the line on which the token begins.
 ///
-/// The text's bytes lie on the lines that `text` gives them. A sign at the very beginning of a text
-/// doesn't count, since nothing stands before it.
+/// The bytes are on the lines that `text` gives them. A sign at the beginning of a text doesn't
+/// begin a number, since nothing comes before it.
 pub fn tokens(alloc: Global, text: &[Placed]) -> Result<Items<Token>, LexError>
     ensures { Answers Memory (tokens_of text.now) result }
 {

@@ -20,7 +20,7 @@ pub struct Quoted {
     pub taken: usize,
 }
 
-/// What a literal has behind its opening mark, where the line has its closing mark.
+/// What a literal has after its opening mark, where the line has its closing mark.
 fn quoted_by(alloc: Global, mark: u8, rest: &[u8]) -> Result<Option<Quoted>, NoMemory>
     ensures { Makes (quoted_by mark rest.now) result }
 {

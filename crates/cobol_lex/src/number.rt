@@ -16,7 +16,7 @@ use cob_base::{Boxed, NoMemory, Text};
 use cob_tree::{Digits, Number};
 use std::alloc::Global;
 
-/// The digits that a number can have.
+/// The most digits that a number can have.
 const MOST_DIGITS: usize = 18;
 
 fn begins_unsigned(bytes: &[u8]) -> bool
@@ -28,7 +28,7 @@ fn begins_unsigned(bytes: &[u8]) -> bool
     }
 }
 
-/// Whether a number begins here, behind the byte `before`.
+/// Whether a number begins here, after the byte `before`.
 pub fn begins_number(before: u8, bytes: &[u8]) -> bool
     ensures { result ≡ begins_number before bytes.now }
 {
@@ -108,7 +108,7 @@ fn is_decimal(bytes: &[u8]) -> bool
     are_digits_or_points(bytes) && points(bytes) <= 1
 }
 
-/// How many digits stand behind the period.
+/// How many digits come after the period.
 fn scale_of(bytes: &[u8]) -> usize
     ensures { result ≡ length (decimals bytes.now) }
 {

@@ -43,6 +43,7 @@ pub fn picture_run(bytes: &[u8]) -> &[u8]
     }
 }
 
+/// The token of a run that is read as a picture.
 pub fn picture_lexeme(alloc: Global, line: u32, run: &[u8]) -> Result<Lexeme, LexError>
     ensures { Answers Memory (picture_lexeme line run.now) result }
 {

@@ -32,7 +32,8 @@ pub fn separators_end(bytes: &[u8], at: usize) -> usize
     end
 }
 
-/// How many of the first sixteen bytes are spaces before another byte; none of fewer bytes.
+/// How many of the first sixteen bytes are spaces before another byte; 0 of fewer than sixteen
+/// bytes.
 fn spaces(bytes: &[u8]) -> usize
     ensures within { result ≤ length bytes.now }
     ensures spaces { (k : ℕ) → k < result → (slice_index bytes.now k == space) ≡ true }

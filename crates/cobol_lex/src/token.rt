@@ -14,7 +14,7 @@ pub enum TokenKind {
     Decimal(Boxed<Number>),
     /// The bytes of a literal, without its quotation marks.
     Literal(Text),
-    /// The picture behind PIC or PICTURE.
+    /// The picture after PIC or PICTURE.
     Picture(Text),
     Period,
     /// One of `+ - * / = < > ( ) :`.

@@ -39,6 +39,7 @@ pub fn word_run(bytes: &[u8]) -> &[u8]
     &bytes[..word_length(bytes)]
 }
 
+/// The token of a run that begins as a word.
 pub fn word_kind(line: u32, run: &[u8]) -> Result<TokenKind, LexError>
     ensures { result ≡ word_kind line run.now }
 {

@@ -22,52 +22,65 @@ use Rattle.cobol_print.specs.units.Entry.{level_text, redefines_tokens, sign_tok
 use Rattle.cobol_print.specs.units.Division.{select_tokens, status_tokens, sentence_lines}
 use Rattle.cobol_print.specs.Unit.{is_ink}
 
--- no word behind which a picture comes, no literal with control characters, and no period
+-- no word after which a picture comes, no literal with control characters, and no period
 abbrev pub IsSteady : TokenKind → Type 0
 IsSteady (kind.Word word) = (spells (codes "PIC") word || spells (codes "PICTURE") word) ≡ false
 IsSteady (kind.Literal value) = list_all (nat_le space) value ≡ true
 IsSteady kind.Period = ⊥
 IsSteady _ = Unit {0}
 
--- a token that a line may have anywhere behind its first one
+-- a token that a line may have anywhere after its first one
 abbrev pub IsFree : TokenKind → Type 0
 IsFree token = IsPlainToken token × IsSteady token
 
+-- each of these tokens may be anywhere on a line
 abbrev pub AreFree : Tokens → Type 0
 AreFree tokens = All IsFree tokens
 
+-- the SELECT clause of a file can be printed
 abbrev pub IsGivenFile : Program → FileEntry → Type 0
 IsGivenFile program file = AreFree (select_tokens file ++ status_tokens program file.status)
 
 -- a picture that fits on a line and is no word IS
 pub record IsPrintable (picture : List ℕ) : Type 0 where
+  -- it is a picture
   pub whole : IsPicture picture
   pub short : length picture ≤ 37
+  -- each of its bytes can be printed
   pub ink : list_all is_ink picture ≡ true
+  -- it isn't the word IS
   pub other : spells (codes "IS") (word_run picture) ≡ false
 
+-- the picture can be printed, or there is none
 abbrev pub IsGivenPicture : Option Picture → Type 0
 IsGivenPicture None = Unit {0}
 IsGivenPicture (Some picture) = IsPrintable (picture_text picture)
 
+-- the name of the file that an entry is of
 abbrev pub file_of : Program → Option ℕ → Tokens
 file_of program None = []
 file_of program (Some file) = file_tokens program file
 
+-- an entry can be printed
 pub record IsGivenEntry (program : Program) (entry : Entry) : Type 0 where
   pub file : AreFree (file_of program entry.file)
+  -- its level, its name and its REDEFINES can be printed
   pub front : AreFree (kind.Digits (level_text entry.level) ∷ kind.Word (entry_name (Some entry))
       ∷ redefines_tokens program entry.redefines)
   pub picture : IsGivenPicture entry.picture
+  -- the clauses after the picture can be printed
   pub back : AreFree (sign_tokens entry.sign ++ (occurs_tokens entry.occurs
       ++ (value_tokens program entry.value ++ ranges_tokens program entry.ranges)))
 
+-- a line of statements can be printed
 abbrev pub IsGivenLine : PrintUnit → Type 0
 IsGivenLine unit = AreFree unit.tokens
 
+-- the lines of a sentence can be printed
 abbrev pub IsGivenSentence : Program → Sentence → Type 0
 IsGivenSentence program sentence = All IsGivenLine (sentence_lines program sentence)
 
+-- a paragraph can be printed, with its name and that of its section
 pub record IsGivenParagraph (program : Program) (paragraph : Paragraph) : Type 0 where
   pub section : AreFree (name_tokens paragraph.section)
   pub name : AreFree (name_tokens paragraph.name)

@@ -1,4 +1,4 @@
--- Where tokens stand on a line.
+-- Where tokens are on a line.
 pub mod Spacing
 -- Units as lines, and the lines as bytes.
 pub mod Line
@@ -12,5 +12,5 @@ pub mod Unit
 pub mod Given
 -- What holds of all that is printed.
 pub mod Laws
--- A program as units: the tokens of each of its lines, with the column from which they stand.
+-- A program as units: the tokens of each of its lines, with the column where they begin.
 pub mod units

@@ -10,17 +10,22 @@ use Rattle.cobol_print.specs.declared.spacing.TokenStart.{TokenStart}
 use Rattle.cobol_print.specs.declared.units.unit.PrintUnit.{PrintUnit}
 use Rattle.cobol_print.specs.Spacing.{no_space_behind, start_of}
 
--- what stands on a line from some column on, and the lines below it
+-- what is on a line from some column on, and the lines below it
 pub record Rest : Type 0 where
+  -- what is on the line
   pub here : List ℕ
+  -- the lines below it
   pub below : List Row
 
+-- these bytes before what is on the line
 abbrev pub in_front : List ℕ → Rest → Rest
 in_front bytes rest = record { here = bytes ++ rest.here; below = rest.below }
 
+-- these bytes begin a new line, before what is on it
 abbrev pub on_new_line : List ℕ → Rest → Rest
 on_new_line bytes rest = record { here = []; below = Begins (bytes ++ rest.here) ∷ rest.below }
 
+-- these bytes begin a continuation line, before what is on it
 abbrev pub continued : List ℕ → Rest → Rest
 continued bytes rest = record { here = []; below = GoesOn (bytes ++ rest.here) ∷ rest.below }
 
@@ -35,12 +40,12 @@ turned inside b = if b == quote then not inside else inside
 abbrev pub mark_again : (inside : Bool) → List ℕ
 mark_again inside = if inside then quote ∷ [] else []
 
--- a byte of a token at this column, which goes on in the next line behind column 72
+-- a byte of a token at this column, which goes on in the next line after column 72
 abbrev pub byte_onto : (column : ℕ) (inside : Bool) → ℕ → Rest → Rest
 byte_onto column inside b rest =
     if column == 73 then continued (mark_again inside ++ b ∷ []) rest else in_front (b ∷ []) rest
 
--- the column behind that byte
+-- the column after that byte
 abbrev pub next_column : (column : ℕ) (inside : Bool) → ℕ
 next_column column inside = if column == 73 then (if inside then 14 else 13) else column + 1
 
@@ -50,7 +55,7 @@ onto column inside [] rest = rest
 onto column inside (b ∷ bytes) rest =
     byte_onto column inside b (onto (next_column column inside) (turned inside b) bytes rest)
 
--- the column behind them
+-- the column after them
 abbrev pub column_behind : (column : ℕ) (inside : Bool) → List ℕ → ℕ
 column_behind column inside [] = column
 column_behind column inside (b ∷ bytes) =
@@ -58,7 +63,7 @@ column_behind column inside (b ∷ bytes) =
 
 -- ---- the tokens of a unit
 
--- a token from where it begins, behind what ends before this column
+-- a token from where it begins, after what ends before this column
 abbrev pub begun : TokenStart → (column : ℕ) → Rest → Rest
 begun start column rest =
     if start.breaks then on_new_line (replicate (start.column - 8) space) rest
@@ -73,6 +78,7 @@ rest_of margin column clinging (token ∷ tokens) below =
     (rest_of margin (column_behind start.column false (written token)) (no_space_behind token)
     tokens below))
 
+-- the first line of a unit, with its margin
 abbrev pub first_line : (column : ℕ) → Rest → List Row
 first_line column rest = Begins (replicate (column - 8) space ++ rest.here) ∷ rest.below
 
@@ -95,7 +101,7 @@ lines_of (unit ∷ units) = unit_lines unit.column unit.tokens (lines_of units)
 abbrev pub bytes_of_lines : List Row → List ℕ
 bytes_of_lines rows = source_of (map row_line rows)
 
--- none of the lines begins a comment entry, where `over` says that a division header stands before
+-- none of the lines begins a comment entry, where `over` says that a division header comes before
 -- them
 abbrev pub NoEntryRow : (over : Bool) → List Row → Type 0
 NoEntryRow over rows = NoEntry over (map row_line rows)

@@ -12,12 +12,13 @@ use Rattle.cobol_print.specs.Line.{turned, next_column, column_behind}
 abbrev pub next_line : (line column : ℕ) → ℕ
 next_line line column = if column == 73 then line + 1 else line
 
--- the line of what stands behind these bytes
+-- the line of what follows these bytes
 abbrev pub line_behind : (line column : ℕ) (inside : Bool) → List ℕ → ℕ
 line_behind line column inside [] = line
 line_behind line column inside (b ∷ bytes) =
     line_behind (next_line line column) (next_column column inside) (turned inside b) bytes
 
+-- the line on which a token begins
 abbrev pub start_line : (line : ℕ) → TokenStart → ℕ
 start_line line start = if start.breaks then line + 1 else line
 
@@ -47,6 +48,7 @@ unit_tokens line column (token ∷ tokens) =
     ∷ rest_tokens (line_behind line column false (written token)) column
     (column_behind column false (written token)) (no_space_behind token) tokens
 
+-- the line on which a unit ends
 abbrev pub unit_line : (line column : ℕ) → List TokenKind → ℕ
 unit_line line column [] = line
 unit_line line column (token ∷ tokens) =

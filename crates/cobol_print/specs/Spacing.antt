@@ -1,21 +1,22 @@
--- Where tokens stand on a line.
+-- Where tokens are on a line.
 use Rattle.std.specs.Prelude.{ℕ, ◌+◌, Bool, true, false, not, ◌==◌, ◌&&◌, ◌||◌, nat_le, if◌then◌else◌}
 use Rattle.cob_base.specs.Bytes.{left_parenthesis, right_parenthesis, colon}
 use Rattle.cobol_lex.specs.declared.token.TokenKind.{TokenKind}
 use Rattle.cobol_lex.specs.declared.token.TokenKind.TheVariants as kind
 use Rattle.cobol_print.specs.declared.spacing.TokenStart.{TokenStart}
 
--- no space stands before this token: `.`, `)` and `:`
+-- no space comes before this token: `.`, `)` and `:`
 abbrev pub hugs : TokenKind → Bool
 hugs kind.Period = true
 hugs (kind.Mark b) = b == right_parenthesis || b == colon
 hugs _ = false
 
--- no space stands behind this token: `(` and `:`
+-- no space follows this token: it is `(` or `:`
 abbrev pub no_space_behind : TokenKind → Bool
 no_space_behind (kind.Mark b) = b == left_parenthesis || b == colon
 no_space_behind _ = false
 
+-- the token is a literal
 abbrev pub is_literal : TokenKind → Bool
 is_literal (kind.Literal value) = true
 is_literal _ = false
@@ -24,13 +25,13 @@ is_literal _ = false
 abbrev pub fits : (column size : ℕ) → Bool
 fits column size = nat_le (column + size) 73
 
--- where a token stands on the same line, behind one that clings or one that doesn't
+-- where a token is on the same line, after one that clings or one that doesn't
 abbrev pub column_of : (column : ℕ) (no_space_behind : Bool) → TokenKind → ℕ
 column_of column no_space_behind token =
     if no_space_behind || hugs token then column else column + 1
 
--- where a token of this size begins, in a unit from this margin, behind what ends before this
--- column: on the same line where it fits there, else four columns behind the margin, and a literal
+-- where a token of this size begins, in a unit from this margin, after what ends before this
+-- column: on the same line where it fits there, else four columns after the margin, and a literal
 -- that is too long for that in column 12
 abbrev pub start_of : (margin column : ℕ) (no_space_behind : Bool) → TokenKind → (size : ℕ) →
     TokenStart

@@ -11,11 +11,12 @@ use Rattle.cobol_lex.specs.declared.token.TokenKind.TheVariants as kind
 use Rattle.cobol_print.specs.declared.units.unit.PrintUnit.{PrintUnit}
 use Rattle.cobol_print.specs.Spacing.{hugs}
 
+-- the tokens of these units, one after the other
 abbrev pub all_tokens : List PrintUnit → List TokenKind
 all_tokens [] = []
 all_tokens (unit ∷ units) = unit.tokens ++ all_tokens units
 
--- each can stand in a text behind those before it
+-- each can be in a text after those before it
 abbrev pub AreLawfulKinds : Awaits → List TokenKind → Type 0
 AreLawfulKinds awaits [] = Unit {0}
 AreLawfulKinds awaits (token ∷ tokens) =
@@ -32,8 +33,8 @@ IsSized margin (kind.Picture picture) =
     (margin + 4 + length picture ≤ 73) × (list_all is_ink picture ≡ true)
 IsSized margin token = margin + 4 + length (written token) ≤ 73
 
--- these two may stand with no space between them: nothing but a period behind a picture, and
--- nothing behind a period
+-- these two may meet with no space between them: nothing but a period after a picture, and
+-- nothing after a period
 abbrev pub may_meet : (before next : TokenKind) → Bool
 may_meet kind.Period next = not (hugs next)
 may_meet (kind.Picture picture) kind.Period = true
@@ -53,6 +54,9 @@ BeginsWell _ = ⊥
 
 -- a unit that can be printed from its column on
 pub record IsUnit (unit : PrintUnit) : Type 0 where
+  -- it begins in column 8 at least
   pub low : 8 ≤ unit.column
+  -- it begins with a word or with digits
   pub begins : BeginsWell unit.tokens
+  -- each token fits on a new line, or is a literal
   pub sized : All (IsSized unit.column) unit.tokens

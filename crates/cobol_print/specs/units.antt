@@ -1,4 +1,4 @@
--- Units, and where they stand.
+-- Units, and where they begin.
 pub mod Unit
 -- Statements, with what they hold.
 pub mod Statement

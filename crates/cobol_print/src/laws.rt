@@ -6,7 +6,7 @@ use cobol_lex::laid_reads_back;
 use ref_format::rows_are_read;
 
 /// What is printed unfolds without a fault to a text whose tokens are the units' own, each on the
-/// line on which it was printed, literals that are cut over several lines too.
+/// line on which it was printed, also where literals are cut over several lines.
 pub fn printed_reads_back()
     ensures { PrintedReadsBack }
 {
@@ -19,13 +19,13 @@ pub fn heads_begin_no_entry()
     ensures { HeadsBeginNoEntry }
 {}
 
-/// These are the units' tokens, all and in order.
+/// The printed tokens are the units' tokens, all of them and in order.
 pub fn prints_all()
     ensures { PrintsAll }
 {}
 
-/// What is printed of a program whose names, numbers and literals a text can have unfolds without
-/// a fault to a text with the tokens of its units.
+/// What is printed of a program unfolds without a fault to a text with the tokens of its units,
+/// where a text can have the program's names, numbers and literals.
 pub fn programs_unfold()
     ensures { ProgramsUnfold }
 {

@@ -12,16 +12,17 @@ use cob_base::{NoMemory, Text};
 use cobol_lex::TokenKind;
 use std::alloc::Global;
 
-/// The lines so far, and the column at which the next byte stands.
+/// The lines so far, and the column of the next byte.
 #[derive(Drop)]
 pub struct Layout {
     pub out: Text,
     pub column: usize,
-    /// Whether that is inside a literal.
+    /// Whether the next byte is inside a literal.
     pub inside: bool,
 }
 
 impl Layout {
+    /// A layout without a line yet.
     pub fn new(alloc: Global) -> Layout
         ensures out { result.out ≡ [] }
         ensures column { result.column ≤ 73 }
@@ -76,7 +77,7 @@ impl Layout {
         Ok(())
     }
 
-    /// Adds the bytes of a token one after the other.
+    /// Adds the bytes of a token one by one.
     fn put_each(&mut self, bytes: &[u8]) -> Result<(), NoMemory>
         requires { self.old.column ≤ 73 }
         ensures out { OnOk result
@@ -103,7 +104,7 @@ impl Layout {
         Ok(())
     }
 
-    /// Goes to where a token begins.
+    /// Goes to the column where a token begins, on this line or a new one.
     fn go_to(&mut self, start: TokenStart) -> Result<(), NoMemory>
         requires { start.column ≤ 73 }
         ensures out { OnOk result
@@ -137,7 +138,7 @@ impl Layout {
         self.add_rest(alloc, unit.column, no_space_behind(first), rest)
     }
 
-    /// Adds a token in a unit from this margin.
+    /// Adds a token of a unit with this margin.
     fn add_token(
         &mut self,
         alloc: Global,
@@ -182,7 +183,7 @@ impl Layout {
         self.put_all(bytes)
     }
 
-    /// Adds the tokens that follow in a unit from this margin, and ends its last line.
+    /// Adds the other tokens of a unit with this margin, and ends its last line.
     fn add_rest(
         &mut self,
         alloc: Global,

@@ -1,12 +1,11 @@
 //! Programs to bytes in the reference format.
 //!
-//! `print` gives the lines of a program's units. A unit is a column and the tokens that stand from
-//! it. `print_units` lays units out in lines of 72 columns and cuts literals that are too long for
-//! one, as `lines_of` says. That this is right is said by `printed_reads_back`: what is printed
-//! unfolds without a fault, to a text with these very tokens, and by `programs_unfold`, which says
-//! it of programs. Hold it against ISO 1989:1985,
-//! Reference Format, continuation of lines. That the lines are those that a person would write is
-//! tested.
+//! `print` gives the lines of a program's units. A unit is a column and the tokens that are written
+//! from it. `print_units` lays units out in lines of 72 columns and cuts literals that are too long
+//! for one, as `lines_of` says. The law `printed_reads_back` supports this: what is printed unfolds
+//! without a fault, to a text with exactly these tokens; `programs_unfold` says the same of
+//! programs. It is to be compared with ISO 1989:1985, Reference Format, continuation of lines. That
+//! the lines are such as a person would write is tested.
 #![tactic(auto)]
 
 mod laws;
@@ -28,7 +27,7 @@ pub use laws::{heads_begin_no_entry, printed_reads_back, prints_all, programs_un
 use layout::Layout;
 use std::alloc::Global;
 
-/// The bytes of a program.
+/// The bytes of a program in the reference format, each line ended by LF.
 pub fn print(alloc: Global, program: &Program) -> Result<Text, NoMemory>
     ensures { Makes (printed program.now) result }
 {
@@ -36,7 +35,7 @@ pub fn print(alloc: Global, program: &Program) -> Result<Text, NoMemory>
     print_units(alloc, units.as_slice())
 }
 
-/// The lines of the units, one behind the other.
+/// The bytes of the lines of these units, in order.
 pub fn print_units(alloc: Global, units: &[PrintUnit]) -> Result<Text, NoMemory>
     requires { All (λ unit. unit.column ≤ 32) units.now }
     ensures { Makes (bytes_of_lines (lines_of units.now)) result }

@@ -1,21 +1,21 @@
-//! Where tokens stand on a line.
+//! Where tokens are put on a line.
 
 ghost use Rattle.std.specs.Prelude.{◌≡◌, ◌≤◌};
 ghost use Rattle.cobol_print.specs.Spacing.{hugs as hugs_left, no_space_behind as clings_right, is_literal as literal_kind, start_of as start_by};
 
 use cobol_lex::TokenKind;
 
-/// The column behind the last one of a line.
+/// The column after the last one of a line.
 pub const BEHIND: usize = 73;
 
-/// Whether no space stands before this token.
+/// Whether no space comes before this token.
 fn hugs(token: &TokenKind) -> bool
     ensures { result ≡ hugs_left token.now }
 {
     matches!(token, TokenKind::Period | TokenKind::Mark(b')' | b':'))
 }
 
-/// Whether no space stands behind this token.
+/// Whether no space comes after this token.
 pub fn no_space_behind(token: &TokenKind) -> bool
     ensures { result ≡ clings_right token.now }
 {
@@ -35,7 +35,7 @@ pub struct TokenStart {
     pub column: usize,
 }
 
-/// Where a token of this size begins, in a unit from this margin, behind what ends before this
+/// Where a token of this size begins, in a unit with this margin, after what ends before this
 /// column.
 pub fn start_of(
     margin: usize,

@@ -10,7 +10,7 @@ use cob_tree::Number;
 use cobol_lex::TokenKind;
 use std::alloc::Global;
 
-/// The bytes that a token is written with, where it holds them itself.
+/// The bytes with which a token is written, where it holds them itself.
 pub fn held_bytes(token: &TokenKind) -> Option<&[u8]>
     ensures { IfSome result (λ bytes. bytes.now ≡ written token.now) }
 {
@@ -22,7 +22,7 @@ pub fn held_bytes(token: &TokenKind) -> Option<&[u8]>
     }
 }
 
-/// The bytes that a token is written with.
+/// The bytes with which a token is written.
 pub fn spelled(alloc: Global, token: &TokenKind) -> Result<Text, NoMemory>
     ensures { Makes (written token.now) result }
 {
@@ -42,7 +42,7 @@ pub fn spelled(alloc: Global, token: &TokenKind) -> Result<Text, NoMemory>
     Ok(text)
 }
 
-/// A literal in its marks, each `"` in it twice.
+/// Adds a literal in its marks, each `"` in it doubled.
 fn add_literal(text: &mut Text, value: &[u8]) -> Result<(), NoMemory>
     ensures { OnOk result (text.new ≡ text.old ++ written (kind.Literal value.now)) }
 {

@@ -1,9 +1,9 @@
-//! A program as units: the tokens of each of its lines, with the column from which they stand.
+//! A program as units: the tokens of each of its lines, with the column at which they begin.
 //!
-//! `cobol_print::units` gives the headers, a line an entry and a line a statement or phrase, in
-//! their order. What the first line of a statement is says `unparser`; what it holds is below it,
-//! four columns further right. Hold it against ISO 1989:1985, Reference Format, areas A and B, and
-//! the formats of the divisions.
+//! `program_units` gives the headers, and a line for each entry and for each statement or phrase,
+//! in their order. `unparser` gives the first line of a statement; what the statement holds comes
+//! after it, four columns further right. The definitions are to be compared with ISO 1989:1985,
+//! Reference Format, areas A and B, and the formats of the divisions.
 
 mod division;
 mod entry;
@@ -21,7 +21,7 @@ use cob_base::{Items, NoMemory};
 use cob_tree::Program;
 use std::alloc::Global;
 
-/// The units of a program, in order, each from column 32 or one before it.
+/// The units of a program, in order, each of which begins at column 32 or before.
 pub fn program_units(alloc: Global, program: &Program) -> Result<Items<PrintUnit>, NoMemory>
     ensures value { Makes (program_units program.now) result }
     ensures narrow { IfOk result (λ units. All (λ unit. unit.column ≤ 32) units) }

@@ -32,16 +32,17 @@ nothing = record { files = []; entries = []; fault = None }
 abbrev pub nameless : List Token → Outcome Divisions
 nameless tokens = (divisions (status (names_of [] []) [])).reads (start tokens)
 
--- statements begin behind the three tokens of their header
+-- how many tokens come before the statements, which begin after the three tokens of their header
 abbrev pub statements_at : List Token → Outcome Divisions → ℕ
 statements_at tokens (Got found behind) = min (behind.taken + 3) (length tokens)
 statements_at tokens (Stop why rest) = length tokens
 
+-- what the divisions declare, if they were read
 abbrev pub declared_by : Outcome Divisions → Declared
 declared_by (Got found behind) = declared_of found
 declared_by (Stop why rest) = nothing
 
--- names of data and files, and of the paragraphs and sections from there on
+-- the names of data and files, and of the paragraphs and sections from there on
 abbrev pub declarations_from : List Token → Declared → (from : ℕ) → Declarations
 declarations_from tokens declared from = record {
   names = names_of declared.files declared.entries;
@@ -50,10 +51,12 @@ declarations_from tokens declared from = record {
   procedures = procedures_of (drop from tokens) from;
 }
 
+-- what the divisions declare, and where the statements begin
 abbrev pub preamble_of : List Token → Outcome Divisions → Preamble
 preamble_of tokens found =
     record { declared = declared_by found; from = statements_at tokens found }
 
+-- all names that the tokens declare
 abbrev pub declarations_of : List Token → Declarations
 declarations_of tokens =
     declarations_from tokens (declared_by (nameless tokens))
@@ -61,6 +64,7 @@ declarations_of tokens =
 
 -- ---- program = divisions PROCEDURE DIVISION . paragraphs
 
+-- the header of the PROCEDURE DIVISION
 unfoldable pub header : Form (Unit {0})
 header = do
   key (codes "PROCEDURE")
@@ -68,15 +72,19 @@ header = do
   period
   pure tt
 
+-- the divisions before the PROCEDURE DIVISION, now with the names of status items
 abbrev pub before_procedures : Declarations → Form Divisions
 before_procedures known = divisions (status known.names known.entries)
 
+-- the paragraphs of the PROCEDURE DIVISION
 abbrev pub paragraphs : Declarations → Form (List Paragraph)
 paragraphs known = forms.division (parts_of known.names known.entries known.procedures)
 
+-- the PROCEDURE DIVISION with its header
 unfoldable pub procedure_division : Declarations → Form (List Paragraph)
 procedure_division known = header >> paragraphs known
 
+-- the form of a program
 unfoldable pub program : Declarations → Form ProgramDraft
 program known = do
   before ← before_procedures known
@@ -89,6 +97,7 @@ program known = do
 abbrev pub fault_in : Declarations → Option Note → Option Note
 fault_in known noted = earliest known.fault noted
 
+-- the program that was spelled so
 abbrev pub program_of : Declarations → ProgramDraft → Program
 program_of known draft = record {
   name = draft.divisions.name;

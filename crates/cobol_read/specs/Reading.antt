@@ -29,13 +29,14 @@ use Rattle.cob_base.specs.Limit.{max_source, max_tokens, max_paragraphs}
 use Rattle.cobol_read.specs.Limit.{past_source, past_tokens, past_paragraphs}
 use Rattle.cobol_read.specs.Program.{declarations_of, fault_in, program, program_of}
 
--- ---- the steps of reading, each behind those before
+-- ---- the steps of reading, each after those before
 
 -- a source that is no longer than its limit, in the format
 pub record HasText (bytes : List ℕ) (text : List Placed) : Type 0 where
   pub within : length bytes ≤ max_source
   pub formatted : program_text bytes ≡ Ok text
 
+-- a source in the format, whose text has these tokens
 pub record HasTokens (bytes : List ℕ) (tokens : List Token) : Type 0 where
   pub text : List Placed
   pub has_text : HasText bytes text
@@ -46,7 +47,7 @@ pub record HasFewTokens (bytes : List ℕ) (tokens : List Token) : Type 0 where
   pub has_tokens : HasTokens bytes tokens
   pub few : length tokens ≤ max_tokens
 
--- and no word among them that is left out
+-- a source within its limits so far, with no word that is left out
 pub record HasWords (bytes : List ℕ) (tokens : List Token) : Type 0 where
   pub has_few : HasFewTokens bytes tokens
   pub none_left_out : first_left_out tokens ≡ None
@@ -56,12 +57,16 @@ pub record HasSyntax (bytes : List ℕ) (found : Program) (fault : Option Note) 
   pub tokens : List Token
   pub has_words : HasWords bytes tokens
   pub draft : ProgramDraft
+  -- the first name fault that was noted
   pub noted : Option Note
+  -- all tokens spell this draft
   pub spelled : AllSpell (program (declarations_of tokens)) tokens draft noted
+  -- the program is made of it
   pub is : found ≡ program_of (declarations_of tokens) draft
+  -- the fault is the first of those of the draft and of what is declared
   pub fault_is : fault ≡ fault_in (declarations_of tokens) noted
 
--- and its items are within the limit of storage
+-- a program that is read so far, whose items are within the limit of storage
 pub record HasRoom (bytes : List ℕ) (found : Program) : Type 0 where
   pub has_syntax : HasSyntax bytes found None
   pub stored : storage_limit false (storage_of found.entries) ≡ None
@@ -80,23 +85,28 @@ StopsAt bytes why line =
     × Stops (program (declarations_of tokens)) (start tokens) why rest
     × (line ≡ fault_line tokens rest)
 
+-- the tokens stop at a place where this limit is passed by one
 abbrev pub PassesOne : List ℕ → Why → LimitKind → Limit → Type 0
 PassesOne bytes why kind limit =
     ((line : ℕ) × StopsAt bytes why line) × (limit ≡ passed_by_one kind)
 
+-- the source is longer than its limit
 abbrev pub IsTooLong : List ℕ → Limit → Type 0
 IsTooLong bytes limit = (max_source < length bytes) × (limit ≡ past_source)
 
+-- there are more tokens than their limit
 abbrev pub HasManyTokens : List ℕ → Limit → Type 0
 HasManyTokens bytes limit =
     (tokens : List Token) × HasTokens bytes tokens × (max_tokens < length tokens)
     × (limit ≡ past_tokens (length tokens))
 
+-- a program without a fault whose items are past the limit of storage
 abbrev pub IsPastStorage : List ℕ → Limit → Type 0
 IsPastStorage bytes limit =
     (found : Program) × HasSyntax bytes found None
     × (storage_limit false (storage_of found.entries) ≡ Some limit)
 
+-- a program within the limit of storage that has more paragraphs than their limit
 abbrev pub HasManyParagraphs : List ℕ → Limit → Type 0
 HasManyParagraphs bytes limit =
     (found : Program) × HasRoom bytes found × (max_paragraphs < length found.paragraphs)
@@ -113,6 +123,7 @@ IsPast bytes limits.Storage limit = IsPastStorage bytes limit
 IsPast bytes limits.Paragraphs limit = HasManyParagraphs bytes limit
 IsPast bytes _ limit = ⊥
 
+-- the first word that is left out gives this fault
 abbrev pub HasLeftOut : List ℕ → ReadFault → Type 0
 HasLeftOut bytes fault =
     (tokens : List Token) × HasFewTokens bytes tokens × (first_left_out tokens ≡ Some fault)
@@ -123,6 +134,7 @@ HasNameFault bytes fault =
     (found : Program) × (note : Note) × HasSyntax bytes found (Some note)
     × (fault ≡ name_fault note.kind note.position.line)
 
+-- the cause of each fault of the syntax or of a name
 abbrev pub IsParseFault : List ℕ → ParseFault → Type 0
 IsParseFault bytes (faults.Syntax line) = StopsAt bytes whys.Syntax line
 IsParseFault bytes (faults.Name fault) = HasNameFault bytes fault
@@ -137,12 +149,12 @@ HasFault bytes (read.LeftOut word line) = HasLeftOut bytes (read.LeftOut word li
 HasFault bytes (read.Power line) = HasLeftOut bytes (read.Power line)
 HasFault bytes (read.Parse fault) = IsParseFault bytes fault
 
--- the cause of each refusal; want of memory may come at any place
+-- the cause of each refusal; memory may run out at any place
 abbrev pub HasCause : List ℕ → ReadRefusal → Type 0
 HasCause bytes (refusals.Fault fault) = HasFault bytes fault
 HasCause bytes (refusals.Limit limit) = IsPast bytes limit.kind limit
 HasCause bytes refusals.NoMemory = Unit {0}
 
--- this answer, unless memory is wanted
+-- this answer, unless memory runs out
 abbrev pub IsAnswered : Result Program ReadRefusal → Result Program ReadRefusal → Type 0
 IsAnswered answer result = (result ≡ answer) ⊎ (result ≡ Err refusals.NoMemory)

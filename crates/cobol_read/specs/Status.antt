@@ -16,10 +16,12 @@ use Rattle.cobol_grammar.specs.expr_forms.Fault.{usage}
 use Rattle.cobol_grammar.specs.expr_forms.Levels.{data_reference}
 use Rattle.cobol_grammar.specs.Use.{place_of}
 
+-- the picture is of two bytes of any kind
 abbrev pub is_two : Option Picture → Bool
 is_two (Some (pictures.Any length)) = length == 2
 is_two _ = false
 
+-- the entry has such a picture
 abbrev pub holds_two : Option Entry → Bool
 holds_two None = false
 holds_two (Some entry) = is_two entry.picture
@@ -35,7 +37,7 @@ kind_fault kinds.Unknown is_status position = None
 kind_fault kinds.Text is_status position = if is_status then None else usage position
 kind_fault _ is_status position = usage position
 
--- it stands at the reference
+-- it is at the reference
 abbrev pub status_fault : List Entry → Side → Option Note
 status_fault entries side =
     kind_fault side.kind (is_status entries (place_of side.what)) side.position

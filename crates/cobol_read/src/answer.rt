@@ -1,15 +1,20 @@
-//! What a source is read to, step by step.
+//! What reading a source gives, step by step.
+//!
+//! `answer_of` is the steps in the order of reading. The contract of each step says by `Leads` that
+//! the answer is what the rest makes of what the step gives, or else the step's refusal.
 
-ghost use Rattle.std.specs.Prelude.{◌≡◌, ◌≤◌, None, length};
+ghost use Rattle.std.specs.Prelude.{◌≡◌, ◌≤◌, IfOk, None, length};
 ghost use Rattle.cob_base.specs.Answers.{Answers, Makes};
 ghost use Rattle.cobol_lex.specs.Token as lexing;
 ghost use Rattle.declaration_checks.specs.Declaring as declaring;
 ghost use Rattle.parser_combinators.specs.Note as notes;
 ghost use Rattle.parser_combinators.specs.Reading.{start};
+ghost use Rattle.ref_format.specs.Joining.{program_text};
 ghost use Rattle.cobol_read.specs.declared.refusal.ReadRefusal.TheVariants.{NoMemory as Memory};
 ghost use Rattle.cobol_read.specs.Answer as answers;
+ghost use Rattle.cobol_read.specs.Answer.{Leads};
 ghost use Rattle.cobol_read.specs.LeftOut as words;
-ghost use Rattle.cob_base.specs.Limit.{max_tokens};
+ghost use Rattle.cob_base.specs.Limit.{max_source, max_tokens};
 ghost use Rattle.cobol_read.specs.Program as forms;
 
 use crate::declarations::declarations_of;
@@ -29,7 +34,14 @@ use parser_combinators::{Cursor, Note, Unread, Why};
 use ref_format::{FormatError, Placed, unfold};
 use std::alloc::Global;
 
-// ---- behind the syntax
+/// A program as its tokens spell it, and the first fault of a name in it.
+#[derive(Drop)]
+struct Spelled {
+    program: Program,
+    fault: Option<Note>,
+}
+
+// ---- after the syntax
 
 fn with_few_paragraphs(found: Program) -> Result<Program, ReadRefusal>
     ensures { result ≡ answers.with_few_paragraphs found }
@@ -43,15 +55,27 @@ fn with_few_paragraphs(found: Program) -> Result<Program, ReadRefusal>
     }
 }
 
-fn within_storage(limit: Option<Limit>, found: Program) -> Result<Program, ReadRefusal>
-    ensures { result ≡ answers.within_storage limit found }
+fn within_limit(limit: Option<Limit>, found: Program) -> Result<Program, ReadRefusal>
+    ensures { Leads (answers.within_storage limit found) answers.with_few_paragraphs result }
 {
     match limit {
         Some(limit) => {
             drop(found);
             Err(ReadRefusal::Limit(limit))
         }
-        None => with_few_paragraphs(found),
+        None => Ok(found),
+    }
+}
+
+fn within_storage(alloc: Global, found: Program) -> Result<Program, ReadRefusal>
+    ensures { Leads (answers.named None found) answers.with_few_paragraphs result }
+{
+    match storage_of(alloc, found.entries.as_slice()) {
+        Ok(count) => within_limit(passed(LimitKind::Storage, false, count), found),
+        Err(fault) => {
+            drop(found);
+            Err(ReadRefusal::from(fault))
+        }
     }
 }
 
@@ -62,27 +86,16 @@ fn name_refusal(note: Note) -> ReadRefusal
     ReadRefusal::Fault(ReadFault::Parse(ParseFault::Name(fault)))
 }
 
-fn stored(alloc: Global, found: Program) -> Result<Program, ReadRefusal>
-    ensures { Answers Memory (answers.named None found) result }
+fn named(spelled: Spelled) -> Result<Program, ReadRefusal>
+    ensures { Leads (answers.named spelled.fault spelled.program) (answers.named None) result }
 {
-    match storage_of(alloc, found.entries.as_slice()) {
-        Ok(count) => within_storage(passed(LimitKind::Storage, false, count), found),
-        Err(fault) => {
-            drop(found);
-            Err(ReadRefusal::from(fault))
-        }
-    }
-}
-
-fn named(alloc: Global, fault: Option<Note>, found: Program) -> Result<Program, ReadRefusal>
-    ensures { Answers Memory (answers.named fault found) result }
-{
+    let Spelled { program, fault } = spelled;
     match fault {
         Some(note) => {
-            drop(found);
+            drop(program);
             Err(name_refusal(note))
         }
-        None => stored(alloc, found),
+        None => Ok(program),
     }
 }
 
@@ -163,7 +176,7 @@ fn files_of(alloc: Global, divisions: Divisions) -> Result<Items<FileEntry>, NoM
     }
 }
 
-// The entries of the declarations stand in the program.
+// The program has the entries of the declarations.
 fn program_of(alloc: Global, known: Declarations, draft: ProgramDraft) -> Result<Program, NoMemory>
     ensures { Makes (forms.program_of known draft) result }
 {
@@ -188,27 +201,30 @@ fn program_of(alloc: Global, known: Declarations, draft: ProgramDraft) -> Result
     }
 }
 
-fn drafted(
+fn spelled_of(
     alloc: Global,
     known: Declarations,
     draft: ProgramDraft,
     noted: Option<Note>,
-) -> Result<Program, ReadRefusal>
-    ensures { Answers Memory (answers.named (forms.fault_in known noted)
-        (forms.program_of known draft)) result }
+) -> Result<Spelled, NoMemory>
+    ensures { Makes (record {
+      program = forms.program_of known draft;
+      fault = forms.fault_in known noted;
+    }) result }
 {
     let fault = earliest(known.fault, noted);
-    let found = program_of(alloc, known, draft)?;
-    named(alloc, fault, found)
+    let program = program_of(alloc, known, draft)?;
+    Ok(Spelled { program, fault })
 }
 
-fn parsed(alloc: Global, tokens: &[Token], known: Declarations) -> Result<Program, ReadRefusal>
-    ensures { Answers Memory (answers.parsed tokens.now known
-        ((forms.program known).reads (start tokens.now))) result }
+fn parsed_with(alloc: Global, tokens: &[Token], known: Declarations) -> Result<Spelled, ReadRefusal>
+    ensures { Leads
+        (answers.parsed tokens.now known ((forms.program known).reads (start tokens.now)))
+        (λ spelled. answers.named spelled.fault spelled.program) result }
 {
     let mut cursor = Cursor::new(tokens);
     match program(alloc, &mut cursor, &known) {
-        Ok(draft) => drafted(alloc, known, draft, cursor.fault()),
+        Ok(draft) => Ok(spelled_of(alloc, known, draft, cursor.fault())?),
         Err(unread) => {
             drop(known);
             Err(unread_refusal(unread, cursor.fault_line(tokens)))
@@ -216,23 +232,33 @@ fn parsed(alloc: Global, tokens: &[Token], known: Declarations) -> Result<Progra
     }
 }
 
+fn parsed(alloc: Global, tokens: &[Token]) -> Result<Spelled, ReadRefusal>
+    requires { length tokens.now ≤ max_tokens }
+    ensures { Leads (answers.worded None tokens.now)
+        (λ spelled. answers.named spelled.fault spelled.program) result }
+{
+    parsed_with(alloc, tokens, declarations_of(alloc, tokens)?)
+}
+
 // ---- before it
 
-fn worded(alloc: Global, tokens: &[Token]) -> Result<Program, ReadRefusal>
-    requires { length tokens.now ≤ max_tokens }
-    ensures { Answers Memory (answers.worded (words.first_left_out tokens.now) tokens.now) result }
+fn without_left_out(tokens: &[Token]) -> Result<(), ReadRefusal>
+    ensures { Leads (answers.worded (words.first_left_out tokens.now) tokens.now)
+        (λ _. answers.worded None tokens.now) result }
 {
     match first_left_out(tokens) {
         Some(fault) => Err(ReadRefusal::Fault(fault)),
-        None => parsed(alloc, tokens, declarations_of(alloc, tokens)?),
+        None => Ok(()),
     }
 }
 
-fn with_few_tokens(alloc: Global, tokens: &[Token]) -> Result<Program, ReadRefusal>
-    ensures { Answers Memory (answers.with_few_tokens tokens.now) result }
+fn with_few_tokens(tokens: &[Token]) -> Result<(), ReadRefusal>
+    ensures few { IfOk result (λ _. length tokens.now ≤ max_tokens) }
+    ensures leads { Leads (answers.with_few_tokens tokens.now)
+        (λ _. answers.worded (words.first_left_out tokens.now) tokens.now) result }
 {
     if tokens.len() <= MAX_TOKENS {
-        worded(alloc, tokens)
+        Ok(())
     } else {
         Err(ReadRefusal::Limit(past_tokens(tokens.len())))
     }
@@ -256,24 +282,49 @@ fn format_refusal(error: FormatError) -> ReadRefusal
     }
 }
 
-fn lexed(alloc: Global, text: &[Placed]) -> Result<Program, ReadRefusal>
-    ensures { Answers Memory (answers.lexed (lexing.tokens_of text.now)) result }
+fn lexed(alloc: Global, text: &[Placed]) -> Result<Items<Token>, ReadRefusal>
+    ensures { Leads (answers.lexed (lexing.tokens_of text.now)) answers.with_few_tokens result }
 {
     match tokens(alloc, text) {
-        Ok(tokens) => with_few_tokens(alloc, tokens.as_slice()),
-        Err(fault) => Err(lex_refusal(fault)),
+        Ok(tokens) => Ok(tokens),
+        Err(error) => Err(lex_refusal(error)),
     }
 }
 
-/// What these bytes are read to.
+fn formatted(alloc: Global, bytes: &[u8]) -> Result<Items<Placed>, ReadRefusal>
+    requires { length bytes.now ≤ max_source }
+    ensures { Leads (answers.formatted (program_text bytes.now))
+        (λ text. answers.lexed (lexing.tokens_of text)) result }
+{
+    match unfold(alloc, bytes) {
+        Ok(text) => Ok(text),
+        Err(error) => Err(format_refusal(error)),
+    }
+}
+
+fn within_source(bytes: &[u8]) -> Result<(), ReadRefusal>
+    ensures few { IfOk result (λ _. length bytes.now ≤ max_source) }
+    ensures leads { Leads (answers.answer_of bytes.now)
+        (λ _. answers.formatted (program_text bytes.now)) result }
+{
+    if bytes.len() <= MAX_SOURCE {
+        Ok(())
+    } else {
+        Err(ReadRefusal::Limit(past_source()))
+    }
+}
+
+/// What reading these bytes gives.
 pub fn answer_of(alloc: Global, bytes: &[u8]) -> Result<Program, ReadRefusal>
     ensures { Answers Memory (answers.answer_of bytes.now) result }
 {
-    if bytes.len() > MAX_SOURCE {
-        return Err(ReadRefusal::Limit(past_source()));
-    }
-    match unfold(alloc, bytes) {
-        Ok(text) => lexed(alloc, text.as_slice()),
-        Err(fault) => Err(format_refusal(fault)),
-    }
+    within_source(bytes)?;
+    let text = formatted(alloc, bytes)?;
+    let tokens = lexed(alloc, text.as_slice())?;
+    with_few_tokens(tokens.as_slice())?;
+    without_left_out(tokens.as_slice())?;
+    let spelled = parsed(alloc, tokens.as_slice())?;
+    let found = named(spelled)?;
+    let found = within_storage(alloc, found)?;
+    with_few_paragraphs(found)
 }

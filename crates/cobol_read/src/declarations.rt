@@ -19,7 +19,7 @@ use std::alloc::Global;
 use symbol_tables::data_names::NameTable;
 use symbol_tables::procedure_names::{ProcedureTable, procedures_of};
 
-/// The files and entries that are declared, and how many tokens stand before the statements.
+/// The files and entries that are declared, and how many tokens come before the statements.
 #[derive(Drop)]
 pub struct Preamble {
     pub declared: Declared,
@@ -36,7 +36,7 @@ fn nothing(alloc: Global) -> Declared
     }
 }
 
-// Behind three tokens more, or all.
+// The place after three tokens more, or after all.
 fn behind_header(index: usize, tokens: &[Token]) -> usize
     ensures { result ≡ min (index + 3) (length tokens.now) }
 {
@@ -91,7 +91,7 @@ fn preamble_of(alloc: Global, tokens: &[Token]) -> Result<Preamble, NoMemory>
     preamble
 }
 
-// Files and entries are numbered below 2^31.
+// The names of files and entries, whose numbers are below 2^31.
 fn names_in(alloc: Global, declared: &Declared) -> Result<NameTable, NoMemory>
     ensures { Makes (names_of declared.now.files declared.now.entries) result }
 {

@@ -2,7 +2,7 @@
 
 ghost use Rattle.cobol_read.specs.Laws.{ReadsOneWay};
 
-/// Bytes are one program at most, and a program or refused for one cause.
+/// Bytes are at most one program, and either a program or refused for exactly one cause.
 pub fn source_is_read_one_way()
     ensures { ReadsOneWay }
 {}

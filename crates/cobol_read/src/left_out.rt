@@ -28,7 +28,7 @@ fn token_refusal(token: &Token) -> Option<ReadFault>
     }
 }
 
-/// Why the first of these tokens is refused that is.
+/// Why the first refused token of these is refused; none where none is.
 #[tactic(auto, unfolding(crate::specs::LeftOut::first_left_out))]
 pub fn first_left_out(tokens: &[Token]) -> Option<ReadFault>
     ensures { result ≡ words.first_left_out tokens.now }

@@ -1,10 +1,10 @@
-//! Bytes of a source to its program, or the first reason why they are none.
+//! Reads the bytes of a source as its program, or gives the first reason why they aren't one.
 //!
 //! `read` goes through the limits of the source, the reference format, tokens, words that are left
-//! out, the syntax of the whole program over the names that it declares itself, name faults, and
-//! the limits of storage and paragraphs, in this order (ISO 1989:1985). Hold `specs/Reading`
-//! against it: `Reads` says which bytes are which program, `HasCause` why a source is refused, a
-//! clause a refusal. `source_is_read_one_way` says that there is one answer.
+//! out, the syntax of the whole program with the names that it declares itself, name faults, and
+//! the limits of storage and paragraphs, in this order (ISO 1989:1985). In `specs/Reading`, `Reads`
+//! says which bytes are which program, and `HasCause` why a source is refused, with a clause for
+//! each refusal. `source_is_read_one_way` says that there is one answer.
 #![tactic(auto)]
 
 mod answer;
@@ -30,14 +30,14 @@ pub use laws::source_is_read_one_way;
 pub use refusal::{ReadFault, ReadRefusal};
 use std::alloc::Global;
 
-/// The program that these bytes are, or why they are none: of several reasons the first in the
-/// order of reading.
+/// The program that these bytes are, or why they aren't one: of several reasons the first in the
+/// order of reading. The other error is out of memory.
 pub fn read(alloc: Global, bytes: &[u8]) -> Result<Program, ReadRefusal>
-    // what each answer tells
+    // what each answer means
     ensures found { IfOk result (Reads bytes.now) }
     ensures refused { IfErr result (HasCause bytes.now) }
 
-    // and where it comes
+    // and when it comes
     ensures only { (found : tree.Program) → Reads bytes.now found →
         IsAnswered (Ok found) result }
     ensures refuses { (refusal : refusal.ReadRefusal) → refusal ≢ Memory →

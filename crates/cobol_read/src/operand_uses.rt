@@ -1,9 +1,9 @@
 //! Uses of operands in statements, and names of files, records and procedures: each function does
 //! what the definition of its name in `cobol_grammar` says.
 //!
-//! `part` judges uses and makes what stands in the tree, `kind` tells what an entry holds, `record`
-//! what each file's first record does, `name` reads names, `procedure` looks procedures up. Hold
-//! the definitions, not this crate, against ISO 1989:1985.
+//! `part` judges uses and makes what the tree holds, `kind` says what an entry holds, `record` what
+//! each file's first record does, `name` reads names, and `procedure` looks procedures up. The
+//! definitions, not this crate, are to be compared with ISO 1989:1985.
 
 mod kind;
 mod name;

@@ -17,7 +17,7 @@ use symbol_tables::data_names::NameTable;
 use symbol_tables::procedure_names::ProcedureTable;
 
 /// What a program declares: names of data and files, entries with the first fault of their rules
-/// and those on files, paragraphs and sections.
+/// and of those on files, paragraphs and sections.
 #[derive(Drop)]
 pub struct Declarations {
     pub names: NameTable,
@@ -86,7 +86,7 @@ fn procedure_division(
     paragraphs(alloc, cursor, known)
 }
 
-/// Takes a whole program with these declarations.
+/// Takes all tokens of a program with these declarations.
 #[tactic(auto, unfolding(crate::specs::Program::program))]
 pub fn program(
     alloc: Global,

@@ -298,20 +298,20 @@ module _ (program : Program) (files : Files) (steps : ℕ) (sink : SinkCall) whe
   ended_late Left ran.WriteFault goes c = absurd (let x : true ≡ false = goes in cc)
   ended_late Left ran.NoMemory goes c = absurd (let x : true ≡ false = goes in cc)
 
-  pub comes_late : (Left : World → Type 0) (came result : Ran) (device : Option Seen) → breaks_off came ≡ false → NamesDevice result device → ComesTo program files steps sink Left came → ComesTo program files steps sink Left result
-  comes_late Left came (ran.Ended ending) device goes named c = absurd named
-  comes_late Left came ran.Budget device goes named c = absurd named
-  comes_late Left came (ran.DeviceFault name) device goes named c = ended_late Left came goes c
-  comes_late Left came ran.WriteFault device goes named c = absurd named
-  comes_late Left came ran.NoMemory device goes named c = ended_late Left came goes c
+  pub comes_late : (Left : World → Type 0) (came result : Ran) (room : ℕ) (device : Option Seen) → breaks_off came ≡ false → NamesDevice room result device → ComesTo program files steps sink Left came → ComesTo program files steps sink Left result
+  comes_late Left came (ran.Ended ending) room device goes named c = absurd named
+  comes_late Left came ran.Budget room device goes named c = absurd named
+  comes_late Left came (ran.DeviceFault name) room device goes named c = ended_late Left came goes c
+  comes_late Left came ran.WriteFault room device goes named c = absurd named
+  comes_late Left came ran.NoMemory room device goes named c = ended_late Left came goes c
 
   -- a device failed in a step
-  pub comes_failed : (Left : World → Type 0) (result : Ran) (device : Option Seen) → NamesDevice result device → BreaksAt program files steps sink Left → ComesTo program files steps sink Left result
-  comes_failed Left (ran.Ended ending) device named c = absurd named
-  comes_failed Left ran.Budget device named c = absurd named
-  comes_failed Left (ran.DeviceFault name) device named c = c
-  comes_failed Left ran.WriteFault device named c = absurd named
-  comes_failed Left ran.NoMemory device named c = c
+  pub comes_failed : (Left : World → Type 0) (result : Ran) (room : ℕ) (device : Option Seen) → NamesDevice room result device → BreaksAt program files steps sink Left → ComesTo program files steps sink Left result
+  comes_failed Left (ran.Ended ending) room device named c = absurd named
+  comes_failed Left ran.Budget room device named c = absurd named
+  comes_failed Left (ran.DeviceFault name) room device named c = c
+  comes_failed Left ran.WriteFault room device named c = absurd named
+  comes_failed Left ran.NoMemory room device named c = c
 
 -- ---- nothing ran
 

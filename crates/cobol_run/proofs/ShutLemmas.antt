@@ -1,6 +1,7 @@
 -- Where no file is open, nothing is left to close; else the files are closed, on the devices that are
 -- left.
-use Rattle.std.proofs.Common.{◌≡◌, ◌∙◌, sym, ap, subst, ℕ, zero, suc, ◌+◌, ◌-◌, ◌<◌, ◌^◌, arith, Bool, true, false, ◌||◌, List, [], ◌∷◌, ◌++◌, append_assoc, drop, length, take, Option, Some, None, IfSome, IsSome, IsSomeAnd, refl, slice_get}
+use Rattle.std.proofs.Common.{◌≡◌, ◌∙◌, sym, ap, subst, ℕ, zero, suc, ◌+◌, ◌-◌, ◌<◌, ◌≤◌, ◌^◌, arith, inl, inr, Bool, true, false, ◌||◌, List, [], ◌∷◌, ◌++◌, append_assoc, drop, length, take, Option, Some, None, IfSome, IsSome, IsSomeAnd, if◌then◌else◌, refl, slice_get}
+use Rattle.std.proofs.lemmas.Bool.{cases_lt}
 use Rattle.std.specs.Str.{bytes_eq}
 use Rattle.file_model.specs.declared.table.FileRow.{FileRow}
 use Rattle.file_model.specs.Attempts.{Address}
@@ -18,9 +19,12 @@ use Rattle.cobol_theory.specs.cobol_meaning.Runs.{Files}
 use Rattle.cobol_run.specs.declared.machine.Machine.{Machine}
 use Rattle.cobol_run.specs.declared.running.Ran.{Ran}
 use Rattle.cobol_run.specs.declared.running.Ran.TheVariants as ran
-use Rattle.cobol_run.specs.Falling.{FellNamed, Names, NamesDevice, RunFalls, breaks_off}
+use Rattle.cobol_run.specs.Falling.{FellNamed, Names, NamesDevice, NamesFit, RunFalls, breaks_off}
 use Rattle.cobol_run.specs.Filing.{is_open, some_open}
 use Rattle.cobol_run.specs.Over.{ComesTo, FilesEnd, OpenYet, SoFarOver, StepsEnd}
+use Rattle.file_model.proofs.operations_lemmas.FileLemmas.{name_same}
+use Rattle.file_model.proofs.operations_lemmas.FallLemmas.{left_same}
+use Rattle.file_model.proofs.operations_lemmas.ShutLemmas.{nothing_shut}
 use Rattle.cobol_run.proofs.OverRunLemmas.{comes_late, comes_with}
 
 -- ---- none is open
@@ -109,18 +113,63 @@ abbrev name_in : Option Seen → List ℕ
 name_in None = []
 name_in (Some device) = device.name
 
-pub names_last : (result : Ran) (used : List ℕ → Bool) (later : List (List ℕ)) (last : List ℕ) (left now at : ℕ) (old new : List Seen) → LeftOf used (later ++ last ∷ []) left now old new → at ≡ left - 1 → NamesDevice result (slice_get new at) → Names result (later ++ last ∷ [])
-names_last (ran.Ended ending) used later last left now at old new so is named = absurd named
-names_last ran.Budget used later last left now at old new so is named = absurd named
-names_last (ran.DeviceFault name) used later last left now at old new so is named =
+pub names_last : (room : ℕ) (result : Ran) (used : List ℕ → Bool) (later : List (List ℕ)) (last : List ℕ) (left now at : ℕ) (old new : List Seen) → LeftOf used (later ++ last ∷ []) left now old new → at ≡ left - 1 → NamesDevice room result (slice_get new at) → Names result (later ++ last ∷ [])
+names_last room (ran.Ended ending) used later last left now at old new so is named = absurd named
+names_last room ran.Budget used later last left now at old new so is named = absurd named
+names_last room (ran.DeviceFault name) used later last left now at old new so is named =
     let fell : FellNamed last left now old new = fell_named used later last left now old new so in
     let same : fell.after.name ≡ name = subst (λ (o : Option Seen). IfSome o (λ (d : Seen). d.name ≡ name)) (ap (slice_get new) is ∙ fell.there) named in
     (later, ap (λ (n : List ℕ). later ++ n ∷ []) (sym fell.named ∙ same))
-names_last ran.WriteFault used later last left now at old new so is named = absurd named
-names_last ran.NoMemory used later last left now at old new so is named = tt
+names_last room ran.WriteFault used later last left now at old new so is named = absurd named
+names_last room ran.NoMemory used later last left now at old new so is named = tt
 
-pub names_named : (result : Ran) (used : List ℕ → Bool) (later : List (List ℕ)) (last : List ℕ) (left now at : ℕ) (old new : List Seen) → LeftOf used (later ++ last ∷ []) left now old new → NamesDevice result (slice_get new at) → at ≡ left - 1 → Names result (later ++ last ∷ [])
-names_named result used later last left now at old new so named is = names_last result used later last left now at old new so is named
+pub names_named : (room : ℕ) (result : Ran) (used : List ℕ → Bool) (later : List (List ℕ)) (last : List ℕ) (left now at : ℕ) (old new : List Seen) → LeftOf used (later ++ last ∷ []) left now old new → NamesDevice room result (slice_get new at) → at ≡ left - 1 → Names result (later ++ last ∷ [])
+names_named room result used later last left now at old new so named is = names_last room result used later last left now at old new so is named
+
+-- ---- there is room for the name of each device
+
+get_of_front : (xs : List Seen) (n k : ℕ) (x : Seen) → slice_get (take n xs) k ≡ Some x → slice_get xs k ≡ Some x
+get_of_front xs zero k x e = cc
+get_of_front [] (suc n) k x e = cc
+get_of_front (first ∷ xs) (suc n) zero x e = e
+get_of_front (first ∷ xs) (suc n) (suc k) x e = get_of_front xs n k x e
+
+-- those before that place, and the one there
+pub fits_more : (room more : ℕ) (devices : List Seen) (at : ℕ) → room ≤ more → IfSome (slice_get devices at) (λ (d : Seen). length d.name ≤ more) → ((k : ℕ) (device : Seen) → k < at → slice_get devices k ≡ Some device → length device.name ≤ room) →
+    (k : ℕ) (device : Seen) → k < at + 1 → slice_get devices k ≡ Some device → length device.name ≤ more
+fits_more room more devices at grows fits before k device below here =
+    elim (cases_lt k at) [
+      | inl less ↦ let within : length device.name ≤ room = before k device less here in omega (arith, within, grows)
+      | inr past ↦ let e : at ≡ k = omega (arith, below, past) in subst (λ (o : Option Seen). IfSome o (λ (d : Seen). length d.name ≤ more)) (ap (slice_get devices) e ∙ here) fits
+    ]
+
+get_within : (xs : List Seen) (k : ℕ) (x : Seen) → slice_get xs k ≡ Some x → k < length xs
+get_within [] k x e = cc
+get_within (first ∷ xs) zero x e = omega arith
+get_within (first ∷ xs) (suc k) x e = let less : k < length xs = get_within xs k x e in omega (arith, less)
+
+pub fits_all : (room at : ℕ) (devices : List Seen) → length devices ≤ at → ((k : ℕ) (device : Seen) → k < at → slice_get devices k ≡ Some device → length device.name ≤ room) → NamesFit room devices
+fits_all room at devices past before k device here =
+    let less : k < length devices = get_within devices k device here in
+    before k device (omega (arith, less, past)) here
+
+found_fits : (room : ℕ) (devices : List Seen) (name : List ℕ) (before : Seen) → NamesFit room devices → device_found name devices ≡ Some before → length name ≤ room
+found_fits room [] name before fits found = cc
+found_fits room (device ∷ devices) name before fits found =
+    elim (bytes_eq device.name name) as (λ b. bytes_eq device.name name ≡ b → (if b then Some device else device_found name devices) ≡ Some before → length name ≤ room) [
+      | true ↦ λ is e. subst (λ (n : List ℕ). length n ≤ room) (name_same device.name name is) (fits 0 device refl)
+      | false ↦ λ is e. found_fits room devices name before (λ at other here. fits (suc at) other here) e
+    ] refl found
+
+-- so a device that failed isn't told as want of memory
+pub never_unnamed : (room : ℕ) (result : Ran) (used : List ℕ → Bool) (later : List (List ℕ)) (last : List ℕ) (left now at : ℕ) (old new : List Seen) → NamesFit room old → LeftOf used (later ++ last ∷ []) left now old new → at ≡ left - 1 → NamesDevice room result (slice_get new at) → result ≡ ran.NoMemory → ⊥
+never_unnamed room result used later last left now at old new fits so is named none =
+    let fell : FellNamed last left now old new = fell_named used later last left now old new so in
+    let missing : IfSome (slice_get new at) (λ (d : Seen). room < length d.name) = subst (λ (r : Ran). NamesDevice room r (slice_get new at)) none named in
+    let short : room < length fell.after.name = subst (λ (o : Option Seen). IfSome o (λ (d : Seen). room < length d.name)) (ap (slice_get new) is ∙ fell.there) missing in
+    let fitting : length last ≤ room = found_fits room (take left old) last fell.before (λ k device here. fits k device (get_of_front old left k device here)) fell.first in
+    let same : length fell.after.name ≡ length last = ap length fell.named in
+    omega (arith, short, fitting, same)
 
 -- ---- the files are closed
 
@@ -143,6 +192,16 @@ none_of (name ∷ names) e = cc
 append_nothing : (names : List (List ℕ)) → names ++ [] ≡ names
 append_nothing [] = refl
 append_nothing (name ∷ names) = ap (λ l. name ∷ l) (append_nothing names)
+
+-- a device that fails there is named
+pub never_unnamed_late : (room : ℕ) (result : Ran) (failed : Bool) (entries : List FileEntry) (left now : ℕ) (old new : List Seen) (rows : List FileRow) → NamesFit room old →
+    ((gone : List (List ℕ)) (n : ℕ) (was : List Seen) → AreShut gone (addresses_of entries) rows → LeftOf (is_used (addresses_of entries)) gone n left was old → Closes failed (addresses_of entries) gone n left now was old new rows) →
+    failed ≡ true → NamesDevice room result (slice_get new (left - 1)) → result ≡ ran.NoMemory → ⊥
+never_unnamed_late room result failed entries left now old new rows fits closes fell named none =
+    let so : Closes failed (addresses_of entries) [] left left now old old new rows = closes [] left old (nothing_shut (addresses_of entries) rows) (left_same (is_used (addresses_of entries)) left old) in
+    let e : Ends so.more = ends_of so.more (so.some ∙ fell) in
+    let whole : (so.more ++ []) ≡ e.later ++ e.last ∷ [] = append_nothing so.more ∙ e.is in
+    never_unnamed room result (is_used (addresses_of entries)) e.later e.last left now (left - 1) old new fits (subst (λ (l : List (List ℕ)). LeftOf (is_used (addresses_of entries)) l left now old new) whole so.left_of) refl named none
 
 -- those that fail now stand before those that failed
 names_more : (came : Ran) (more gone : List (List ℕ)) → breaks_off came ≡ true → Names came gone → Names came (more ++ gone)
@@ -195,16 +254,16 @@ module _ (start machine : Machine) (steps : ℕ) (sink : SinkCall) (left mid now
   left_closed none = shut_left came (λ program files Left c. c) (names_none came closes.more so.gone (none_of closes.more (closes.some ∙ none)) so.names)
 
   -- a device fails
-  pub left_late : (result : Ran) (at : ℕ) → breaks_off came ≡ false → failed ≡ true → at ≡ mid - 1 → NamesDevice result (slice_get new at) → FilesEnd start steps sink left now old new result
-  left_late result at goes fell is named =
+  pub left_late : (room : ℕ) (result : Ran) (at : ℕ) → breaks_off came ≡ false → failed ≡ true → at ≡ mid - 1 → NamesDevice room result (slice_get new at) → FilesEnd start steps sink left now old new result
+  left_late room result at goes fell is named =
       let nothing : so.gone ≡ [] = none_gone came so.gone goes so.names in
       let e : Ends closes.more = ends_of closes.more (closes.some ∙ fell) in
       let whole : (closes.more ++ so.gone) ≡ e.later ++ e.last ∷ [] = ap (λ l. closes.more ++ l) nothing ∙ append_nothing closes.more ∙ e.is in
       let count : mid + length so.gone ≡ left = so.bench.count in
       let none : length so.gone ≡ 0 = ap length nothing in
       let place : at ≡ left - 1 = omega (arith, count, none, is) in
-      shut_left result (λ program files Left c. comes_late program files steps sink Left came result (slice_get new at) goes named c)
-      (subst (Names result) (sym whole) (names_last result (is_used (addresses_of start.plan.program.now.files)) e.later e.last left now at old new (subst (λ (l : List (List ℕ)). LeftOf (is_used (addresses_of start.plan.program.now.files)) l left now old new) whole closes.left_of) place named))
+      shut_left result (λ program files Left c. comes_late program files steps sink Left came result room (slice_get new at) goes named c)
+      (subst (Names result) (sym whole) (names_last room result (is_used (addresses_of start.plan.program.now.files)) e.later e.last left now at old new (subst (λ (l : List (List ℕ)). LeftOf (is_used (addresses_of start.plan.program.now.files)) l left now old new) whole closes.left_of) place named))
 
   -- some place is left where one fails
   pub place_left : failed ≡ true → mid ≡ 0 → ⊥

@@ -1,5 +1,5 @@
 -- What a run leaves of the devices of its bench, whatever files they tell.
-use Rattle.std.specs.Prelude.{ℕ, ◌≡◌, ◌<◌, ◌-◌, Bool, true, false, List, [], ◌∷◌, ◌++◌, take, Option, Some, IfSome, Result, Ok, Err, slice_get}
+use Rattle.std.specs.Prelude.{ℕ, ◌≡◌, ◌<◌, ◌≤◌, ◌-◌, Bool, true, false, List, [], ◌∷◌, ◌++◌, length, take, Option, Some, IfSome, Result, Ok, Err, slice_get}
 use Rattle.cob_base.specs.declared.memory.NoMemory.{NoMemory}
 use Rattle.cob_tree.specs.declared.file.FileEntry.{FileEntry}
 use Rattle.file_model.specs.declared.table.FileRow.{FileRow}
@@ -21,7 +21,7 @@ abbrev pub SameBench : List FileEntry → (left left_now : ℕ) → (old new : L
 SameBench files left left_now old new =
     LeftOf (is_used (addresses_of files)) [] left left_now old new
 
--- a step: where memory was wanted no device failed
+-- a step: where memory ran out no device failed
 abbrev pub StepFalls : Result StepOutcome NoMemory → List FileEntry → (left left_now : ℕ) →
     (old new : List Seen) → List FileRow → Type 0
 StepFalls (Ok step.On) files left left_now old new table = SameBench files left left_now old new
@@ -32,6 +32,7 @@ StepFalls (Ok step.Failed) files left left_now old new table =
     BrokeOver faults.Device files left left_now old new table
 StepFalls (Err e) files left left_now old new table = SameBench files left left_now old new
 
+-- what one more step leaves of the devices
 abbrev pub TurnFalls : Turned → List FileEntry → (left left_now : ℕ) → (old new : List Seen) →
     List FileRow → Type 0
 TurnFalls turned.On files left left_now old new table = SameBench files left left_now old new
@@ -46,18 +47,24 @@ TurnFalls turned.NoMemory files left left_now old new table = SameBench files le
 -- ---- a device fault
 
 -- a device of that name failed, which was the first of its name on the bench: it was the first that
--- failed, and stands where the bench ended
+-- failed, and is where the bench ended
 pub record FellNamed (name : List ℕ) (left left_now : ℕ) (old new : List Seen) : Type 0 where
+  -- the device before it failed
   pub before : Seen
+  -- and after that
   pub after : Seen
+  -- fewer devices are on the bench
   pub less : left_now < left
+  -- it was the first of its name on the bench
   pub first : device_found name (take left old) ≡ Some before
+  -- it is where the bench ended
   pub there : slice_get new (left - 1) ≡ Some after
   pub named : after.name ≡ name
+  -- its count of failures rose
   pub counted : Counts true before.faults after.faults
 
 -- the devices that failed, the first of them last, by what a run comes to: none, or first the one
--- that is named; where the sink failed or memory was wanted some may have failed
+-- that is named; where the sink failed or memory ran out some may have failed
 abbrev pub Names : Ran → List (List ℕ) → Type 0
 Names (ran.Ended ending) gone = gone ≡ []
 Names ran.Budget gone = gone ≡ []
@@ -73,13 +80,18 @@ RunFalls ran.Budget left left_now old new = Unit {0}
 RunFalls ran.WriteFault left left_now old new = Unit {0}
 RunFalls ran.NoMemory left left_now old new = Unit {0}
 
--- a device fault with the name of this device, or memory was wanted
-abbrev pub NamesDevice : Ran → Option Seen → Type 0
-NamesDevice (ran.DeviceFault name) device = IfSome device (λ d. d.name ≡ name)
-NamesDevice (ran.Ended ending) device = ⊥
-NamesDevice ran.Budget device = ⊥
-NamesDevice ran.WriteFault device = ⊥
-NamesDevice ran.NoMemory device = Unit {0}
+-- the name of each of these devices has room in so many bytes
+abbrev pub NamesFit : ℕ → List Seen → Type 0
+NamesFit room devices = (at : ℕ) (device : Seen) → slice_get devices at ≡ Some device →
+    length device.name ≤ room
+
+-- a device fault with the name of this device, or there was no room for it in so many bytes
+abbrev pub NamesDevice : ℕ → Ran → Option Seen → Type 0
+NamesDevice room (ran.DeviceFault name) device = IfSome device (λ d. d.name ≡ name)
+NamesDevice room (ran.Ended ending) device = ⊥
+NamesDevice room ran.Budget device = ⊥
+NamesDevice room ran.WriteFault device = ⊥
+NamesDevice room ran.NoMemory device = IfSome device (λ d. room < length d.name)
 
 -- a run that closes no more than what is left open
 abbrev pub breaks_off : Ran → Bool

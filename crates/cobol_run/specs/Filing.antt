@@ -6,10 +6,11 @@ use Rattle.file_model.specs.declared.table.FileRow.{FileRow}
 use Rattle.control_flow_theory.specs.language.Control.{seen}
 use Rattle.cobol_run.specs.Plain.{PlainStmt}
 
--- a statement that stands in no plain program
+-- the statement is in no plain program
 abbrev pub StandsInNone : Stmt → Type 0
 StandsInNone stmt = (last : ℕ) → PlainStmt (seen last stmt) → ⊥
 
+-- the file is open
 abbrev pub is_open : FileRow → Bool
 is_open row = is_some row.how
 

@@ -19,10 +19,12 @@ use Rattle.cobol_run.specs.declared.frames.Head.TheVariants as head
 
 -- Statements in a section whose last paragraph is this one.
 
+-- a loop's body as the theory has it
 abbrev pub body_seen : ℕ → Body → language.Body
 body_seen last (Nested stmts) = language.Nested (seen_stmts last stmts.now)
 body_seen last (Performed entry exit) = language.Performed entry exit
 
+-- a loop's remaining turns as the theory has them
 abbrev pub turning_seen : LoopProgress → items.Turning
 turning_seen (Counted turns) = items.Counted turns
 turning_seen (Tests until) = items.Tests (test_of until.now)
@@ -54,6 +56,7 @@ rest_of last (frames.Return end paragraph ∷ below) = []
 abbrev pub last_in : List Paragraph → ℕ → ℕ
 last_in paragraphs paragraph = section_last paragraph (drop (suc paragraph) paragraphs)
 
+-- the last paragraph of the section that a paragraph of the program is in
 abbrev pub last_of : Program → ℕ → ℕ
 last_of program paragraph = last_in program.paragraphs paragraph
 

@@ -2,13 +2,13 @@
 pub mod Plan
 -- what is still to do, as the theory of control has it
 pub mod Frames
--- what holds of each part that stands in a program
+-- what holds of each part that is in a program
 pub mod Standing
 -- programs whose runs need no device
 pub mod Plain
 -- the same as a test of the tree
 pub mod PlainTests
--- programs in which no word on an added item stands
+-- programs without a word on an added item
 pub mod Own
 -- statements on files
 pub mod Filing

@@ -21,7 +21,7 @@ use Rattle.cobol_run.specs.declared.machine.Machine.{Machine}
 use Rattle.cobol_run.specs.Frames.{last_of, pending_of, rest_of}
 use Rattle.cobol_run.specs.Plan.{declared_by, memory_in}
 
--- with this rest and this memory, having shown this
+-- the machine's state with this rest and this memory, having shown this
 abbrev pub state_with : Machine → List Item → Memory → Trace → State
 state_with machine rest memory trace = record {
   paragraph = machine.paragraph;
@@ -35,16 +35,19 @@ state_with machine rest memory trace = record {
 abbrev pub rest_in : Machine → List Item
 rest_in machine = rest_of (last_of machine.plan.program.now machine.paragraph) machine.frames
 
+-- the machine's state in this world, having shown this
 abbrev pub state_in : Machine → World → Trace → State
 state_in machine world trace =
     state_with machine (rest_in machine) (memory_in machine.held.store world) trace
 
 -- ---- how it ends
 
+-- a fault of flow as the theory has it
 abbrev pub fault_seen : FlowFault → outcome.FlowFault
 fault_seen (flow.Overlap paragraph) = Overlap paragraph
 fault_seen (flow.Reentry paragraph) = Reentry paragraph
 
+-- how a run ended, as the theory has it, leaving these files
 abbrev pub ending_seen : Ending → Files → outcome.Ending Files
 ending_seen ending.Stopped left = Stopped Normally left
 ending_seen (ending.Abended abend) left = Stopped (outcome.Abend (abend_number abend)) left
@@ -62,29 +65,34 @@ Follows step.Failed machine world trace state = ⊥
 
 -- ---- steps of the source machine, by what the machine plans
 
+-- the state after the head of the rest went this way
 abbrev pub goes_by : Plan → control.Way Memory → State → State
 goes_by plan way state =
     goes (doing_in (declared_by plan)) files_left (control_of plan.program.now) way state
 
+-- the state after a PERFORM of this range
 abbrev pub performs_by : Plan → ℕ → ℕ → List Item → State → State
 performs_by plan entry exit rest state =
     performs (doing_in (declared_by plan)) files_left (control_of plan.program.now) entry exit rest
     state
 
+-- the state past the end of this paragraph
 abbrev pub falls_by : Plan → ℕ → State → State
 falls_by plan paragraph state =
     falls (doing_in (declared_by plan)) files_left (control_of plan.program.now)
     (slice_get (control_of plan.program.now).paragraphs (suc paragraph)) state
 
+-- the state at the end of a paragraph, with these pending returns
 abbrev pub ends_by : Plan → List Pending → State → State
 ends_by plan pending state =
     end_step (doing_in (declared_by plan)) files_left (control_of plan.program.now) pending state
 
--- with this rest
+-- the state after one step at this rest
 abbrev pub rests_by : Plan → List Item → State → State
 rests_by plan rest state =
     rest_step (doing_in (declared_by plan)) files_left (control_of plan.program.now) rest state
 
+-- the state after one step
 abbrev pub steps_by : Plan → State → State
 steps_by plan state = step_in plan.program.now (declared_by plan) state
 

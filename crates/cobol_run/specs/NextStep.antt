@@ -32,8 +32,8 @@ use Rattle.cobol_run.specs.declared.next_step.NextStep.TheVariants.{On, Shown, H
 use Rattle.cobol_run.specs.Frames.{pending_of, rest_of}
 use Rattle.cobol_run.specs.Plan.{memory_in}
 
--- with these bytes shown, this memory left, and these items to go on with, in a section whose last
--- paragraph is this one
+-- a step as a way of the theory, with these bytes shown, this memory left, and these items to go on
+-- with, in a section whose last paragraph is this one
 abbrev pub way_seen : ℕ → NextStep → List ℕ → Memory → List Item → control.Way Memory
 way_seen last On shown memory rest = control.On [] memory rest
 way_seen last Shown shown memory rest = control.On ((0 ∷ shown) ∷ []) memory rest
@@ -70,16 +70,18 @@ KeepsPending before after = (program : Program) → pending_of program after
 
 -- ---- arms
 
+-- the statements, or none where they are absent
 abbrev pub stmts_or_none : Option (List Stmt) → List Stmt
 stmts_or_none None = []
 stmts_or_none (Some stmts) = stmts
 
--- the statements of WHEN, or those of WHEN OTHER behind the last one
+-- the statements of WHEN, or those of WHEN OTHER after the last one
 abbrev pub arm_by : Option When → Bool → Option (List Stmt) → List Stmt
 arm_by (Some when) last other = (out-When when).stmts
 arm_by None true other = stmts_or_none other
 arm_by None false other = []
 
+-- the statements of the arm with this number, from 0
 abbrev pub arm_at : List When → Option (List Stmt) → ℕ → List Stmt
 arm_at whens other arm = arm_by (slice_get whens arm) (arm == length whens) other
 
@@ -96,7 +98,7 @@ arm_after (Err abend) = Err abend
 
 -- ---- loops
 
--- a loop by VARYING begins: its remainder, behind one body where the test comes after
+-- a loop by VARYING begins: its remainder, after one body where the test comes after
 abbrev pub steps_begun : Bool → Place → Operand → Cond → language.Body → List Item → List Item
 steps_begun false item by until body rest =
     Turn (items.Steps false (augmented item by) (test_of until)) body ∷ rest
@@ -118,7 +120,8 @@ module _ (declared : Declared) where
   stepped_meant item by until body rest memory =
       tested_meant until (items.Steps true (augmented item by) (test_of until)) body rest memory
 
-  -- of VARYING tested before, each arrival but the first begins with the augmenting ADD
+  -- what VARYING tested before does at an arrival: each but the first begins with the augmenting
+  -- ADD
   abbrev pub steps_meant : Bool → Place → Operand → Cond → language.Body → List Item → Memory →
       control.Way Memory
   steps_meant false item by until body rest memory = stepped_meant item by until body rest memory
@@ -126,6 +129,8 @@ module _ (declared : Declared) where
       tried (does_to declared (augmenting item by) memory)
       (λ u. stepped_meant item by until body rest)
 
+  -- what VARYING tested after does after its test: the loop ends, or its item is augmented and one
+  -- more turn begins
   abbrev pub steps_on_meant : Bool → Place → Operand → Cond → language.Body → List Item → Memory →
       control.Way Memory
   steps_on_meant true item by until body rest memory = on rest memory
@@ -133,6 +138,7 @@ module _ (declared : Declared) where
       tried (does_to declared (augmenting item by) memory)
       (λ u. on (steps_begun true item by until body rest))
 
+  -- what is left of VARYING tested after, after its body
   abbrev pub steps_after_meant : Place → Operand → Cond → language.Body → List Item → Memory →
       control.Way Memory
   steps_after_meant item by until body rest memory =

@@ -73,13 +73,14 @@ FiledOver (Ok done) files devices table store frames meant =
     × IsOver files devices table now
 FiledOver (Err fault) files devices table store frames meant = Unit {0}
 
--- it broke off behind some of these operations, which display nothing
+-- it broke off after some of these operations, which display nothing
 abbrev pub BrokeBehind : FileFault → List FileEntry → World → List Operation → (left : ℕ) →
     List Seen → List FileRow → Type 0
 BrokeBehind fault files world operations left devices table = (some : ℕ)
     × BrokeIn fault files (world_behind some world operations) left devices table
     × (displayed (events_of (take some operations)) ≡ [])
 
+-- where the statement broke off, it did so after some of its operations
 abbrev pub FiledBreaks : Result ActOutcome FileFault → List FileEntry → World →
     (ℕ → List Operation) →
     (left : ℕ) → List Seen → List FileRow → Type 0
@@ -87,6 +88,7 @@ FiledBreaks (Ok done) files world operations left devices table = Unit {0}
 FiledBreaks (Err fault) files world operations left devices table =
     (last : ℕ) → BrokeBehind fault files world (operations last) left devices table
 
+-- what a step comes to whose statement did this
 abbrev pub step_done : ActOutcome → StepOutcome
 step_done (done.Abended abend) = step.Over (ending.Abended abend)
 step_done _ = step.On
@@ -123,7 +125,7 @@ FollowsOver (step.Over ending) machine devices before trace state =
     × (displayed now ≡ displayed trace) × StandsOver machine devices state.memory.world
 FollowsOver step.Failed machine devices before trace state = Unit {0}
 
--- a step that breaks off leaves the world behind some of its operations
+-- a step that breaks off leaves the world after some of its operations
 abbrev pub StepBreaks : Result StepOutcome NoMemory → Machine → World → List Operation →
     (left : ℕ) →
     List Seen → Type 0
@@ -143,13 +145,19 @@ StepBreaks (Err e) machine world operations left devices =
 -- gained what they displayed
 pub record SoFarOver (program : Program) (files : Files) (machine : Machine) (devices : List Seen)
     (done : ℕ) (sink : SinkCall) : Type 0 where
+  -- the machine has what the program declares
   pub declared : declared_by machine.plan ≡ declared_in program
+  -- and the program itself
   pub same : machine.plan.program.now ≡ program
+  -- the sink's count of failures doesn't fall
   pub later : sink.count ≤ sink.count_now
   pub world : World
   pub trace : Trace
+  -- the source's state is that of the machine
   pub reached : after program files done ≡ state_in machine world trace
+  -- the sink gained what the trace displays
   pub gained : Gained (displayed trace) sink.held sink.now
+  -- the files are over the devices as the world has them
   pub stands : StandsOver machine devices world
 
 -- ---- what a run comes to, by what it leaves of the world
@@ -161,7 +169,7 @@ EndsAt program files steps sink Left ending =
     (Over (ending_seen ending (world_after program files steps).shelves)) sink
     × Left (world_after program files steps)
 
--- it broke off behind so many steps and so many operations of the next, which display nothing, and
+-- it broke off after so many steps and so many operations of the next, which display nothing, and
 -- the sink gained what was displayed up to there
 abbrev pub BreaksAt : Program → Files → ℕ → SinkCall → (World → Type 0) → Type 0
 BreaksAt program files steps sink Left =
@@ -170,7 +178,7 @@ BreaksAt program files steps sink Left =
     × (displayed (events_at program files done some) ≡ [])
     × Left (world_at program files done some)
 
--- the sink failed in the display of the step behind so many, and gained a front of it
+-- the sink failed in the display of the step after so many, and gained a front of it
 abbrev pub CutAt : Program → Files → ℕ → SinkCall → (World → Type 0) → Type 0
 CutAt program files steps sink Left =
     (done : ℕ) × (done < steps) × (shown : List ℕ) × (front : ℕ)
@@ -179,6 +187,7 @@ CutAt program files steps sink Left =
     × Gains (displayed (source_run program files done).trace ++ take front shown) sink
     × Left (world_after program files done)
 
+-- a run that came to this did so after steps of the source
 abbrev pub ComesTo : Program → Files → ℕ → SinkCall → (World → Type 0) → Ran → Type 0
 ComesTo program files steps sink Left (ran.Ended ending) =
     EndsAt program files steps sink Left ending
@@ -218,18 +227,25 @@ TurnsOver program files machine left devices done sink turned.NoMemory =
 -- the devices that a program uses tell their files; those that are told are these by the devices'
 -- names, and no files are on a device that isn't there
 pub record TellFiles (program : Program) (devices : List Seen) (files : Files) : Type 0 where
+  -- each device that the program uses tells its files
   pub told : TellUsed (addresses_of program.files) devices
+  -- the world has the files of each device that tells them
   pub same : (name : List ℕ) → SameShelf (device_found name devices) (shelf_found name files)
 
 -- what the steps of a run come to, its files being open yet: what is left of the bench, and where
 -- the devices told their files what is left of the world
 pub record StepsEnd (machine machine_now : Machine) (steps : ℕ) (sink : SinkCall)
     (left left_now : ℕ) (old new : List Seen) (came : Ran) : Type 0 where
+  -- the devices that failed
   pub gone : List (List ℕ)
+  -- what is left of the bench without them
   pub bench : LeftOf (is_used (addresses_of machine.plan.program.now.files)) gone
       left left_now old new
+  -- no file on a device that failed is open
   pub apart : AreShut gone (addresses_of machine.plan.program.now.files) machine_now.table.rows
+  -- what the run came to names the first of them
   pub names : Names came gone
+  -- what is left of the world, where the devices told their files
   pub files : (program : Program) (files : Files) → IsOwn program →
       SoFarOver program files machine (take left old) 0 (begun_sink sink) →
       ComesTo program files steps sink (OpenYet gone machine_now (take left_now new)) came
@@ -237,10 +253,14 @@ pub record StepsEnd (machine machine_now : Machine) (steps : ℕ) (sink : SinkCa
 -- the same where the files that were open are closed
 pub record FilesEnd (machine : Machine) (steps : ℕ) (sink : SinkCall) (left left_now : ℕ)
     (old new : List Seen) (came : Ran) : Type 0 where
+  -- the devices that failed
   pub gone : List (List ℕ)
+  -- what is left of the bench without them
   pub bench : LeftOf (is_used (addresses_of machine.plan.program.now.files)) gone
       left left_now old new
+  -- what the run came to names the first of them
   pub names : Names came gone
+  -- what is left of the world, where the devices told their files
   pub files : (program : Program) (files : Files) → IsOwn program →
       SoFarOver program files machine (take left old) 0 (begun_sink sink) →
       ComesTo program files steps sink
@@ -250,9 +270,13 @@ pub record FilesEnd (machine : Machine) (steps : ℕ) (sink : SinkCall) (left le
 -- their files what is left of the world; its files that were open are closed
 pub record RunEnds (program : Program) (steps : ℕ) (sink : SinkCall) (left left_now : ℕ)
     (old new : List Seen) (came : Ran) : Type 0 where
+  -- the devices that failed
   pub gone : List (List ℕ)
+  -- what is left of the bench without them
   pub bench : LeftOf (is_used (addresses_of program.files)) gone left left_now old new
+  -- what the run came to names the first of them
   pub names : Names came gone
+  -- what is left of the world, where the devices told their files
   pub files : (files : Files) → IsOwn program → TellFiles program (take left old) files →
       ComesTo program files steps sink
       (LeavesFiles (addresses_of program.files) gone (take left_now new)) came

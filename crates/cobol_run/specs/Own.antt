@@ -1,4 +1,4 @@
--- Programs in which no word on an added item stands, as in each that is read.
+-- Programs without a word on an added item, as in each that is read.
 use Rattle.std.specs.Prelude.{◌≡◌, ℕ, true, None}
 use Rattle.cob_tree.specs.declared.program.Program.{Program}
 use Rattle.cob_tree.specs.declared.stmt.Stmt.{Stmt}
@@ -13,9 +13,11 @@ use Rattle.cobol_run.specs.Frames.{turning_seen}
 use Rattle.cobol_run.specs.Plain.{once_of}
 use Rattle.cobol_run.specs.Standing as standing
 
+-- no word on an added item is in the program
 abbrev pub IsOwn : Program → Type 0
 IsOwn program = OwnParagraphs (control_of program).paragraphs
 
+-- no word on an added item is in what a state has still to do
 abbrev pub OwnState : State → Type 0
 OwnState = standing.StateHas OwnAct OwnTest OwnPicker
 

@@ -19,6 +19,7 @@ abbrev pub PlainAct : Act → Type 0
 PlainAct (Own simple) = IsTrue (is_inner simple)
 PlainAct _ = ⊥
 
+-- the chooser isn't a READ
 abbrev pub PlainChooser : Chooser → Type 0
 PlainChooser (Read file into has_end) = ⊥
 PlainChooser _ = Unit {0}
@@ -29,13 +30,15 @@ PlainPicker (If test) = OwnTest test × (test ≡ Holds always → ⊥)
 PlainPicker (By chooser) = PlainChooser chooser
 PlainPicker (ByCell cell) = ⊥
 
+-- each part of a statement is plain
 abbrev pub PlainStmt : language.Stmt → Type 0
 PlainStmt = standing.StmtHas PlainAct OwnTest PlainPicker
 
+-- each part of what a state has still to do is plain
 abbrev pub PlainState : State → Type 0
 PlainState = standing.StateHas PlainAct OwnTest PlainPicker
 
--- no statement on files stands in it, and no word on an added item
+-- there is no statement on files in it, and no word on an added item
 abbrev pub IsPlain : Program → Type 0
 IsPlain program =
     standing.ParagraphsHave PlainAct OwnTest PlainPicker (control_of program).paragraphs
@@ -47,6 +50,7 @@ once_by entry exit (Times amount) = None
 once_by entry exit (Until after until) = None
 once_by entry exit (Varying after item from by until) = None
 
+-- the range that a statement performs once, if it is such a PERFORM
 abbrev pub once_of : Stmt → Option Entered
 once_of stmt =
     elim (out-Stmt stmt) [

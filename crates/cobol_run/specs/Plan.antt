@@ -11,9 +11,11 @@ use Rattle.control_flow_theory.specs.semantics.Outcome.{Tried, Got, Ends}
 use Rattle.cobol_theory.specs.cobol_meaning.Acting.{Memory, acted, abend_number}
 use Rattle.cobol_run.specs.declared.held.Plan.{Plan}
 
+-- what the program of a plan declares, and where its items lie
 abbrev pub declared_by : Plan → Declared
 declared_by plan = declared_with plan.program.now plan.areas
 
+-- what is stored, in this world
 abbrev pub memory_in : Roots → World → Memory
 memory_in store world = record { store = store; world = world }
 

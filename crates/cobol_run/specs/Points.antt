@@ -17,11 +17,13 @@ use Rattle.cobol_run.specs.Running.{after}
 
 -- ---- the operations of a step: statements that act have them, and READ, which chooses
 
+-- the operations of a choice; only READ has some
 abbrev pub chooser_operations : Declared → Chooser → Memory → List Operation
 chooser_operations declared (language.Read file into has_end) memory =
     (filing.read declared memory.store memory.world file into has_end true).operations
 chooser_operations declared _ memory = []
 
+-- the operations of a statement
 abbrev pub stmt_operations : Declared → language.Stmt → Memory → List Operation
 stmt_operations declared (language.Do (language.Own stmt)) memory =
     (does declared stmt memory.store memory.world).operations
@@ -29,11 +31,12 @@ stmt_operations declared (language.Choose (language.By chooser) arms) memory =
     chooser_operations declared chooser memory
 stmt_operations declared _ memory = []
 
--- those of the step that is next; a run that is over makes none
+-- the operations of the step that is next; a run that is over makes none
 abbrev pub next_operations : Declared → Standing Files → List Item → Memory → List Operation
 next_operations declared Going (Do stmt ∷ rest) memory = stmt_operations declared stmt memory
 next_operations declared _ rest memory = []
 
+-- the operations of the next step of a state
 abbrev pub operations_in : Declared → State → List Operation
 operations_in declared state =
     next_operations declared state.run.standing state.rest state.memory
@@ -44,7 +47,7 @@ operations_in declared state =
 abbrev pub world_after : Program → Files → ℕ → World
 world_after program files steps = (after program files steps).memory.world
 
--- after so many steps and so many operations of the next
+-- the world after so many steps and so many operations of the next
 abbrev pub world_at : Program → Files → (steps some : ℕ) → World
 world_at program files steps some =
     world_behind some (world_after program files steps)

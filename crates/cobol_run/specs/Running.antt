@@ -18,17 +18,18 @@ use Rattle.cobol_run.specs.Machine.{ending_seen, state_in}
 use Rattle.cobol_run.specs.Plain.{IsPlain}
 use Rattle.cobol_run.specs.Plan.{declared_by}
 
--- the bytes of a DISPLAY, and none of another event
+-- the bytes that an event displays; only a DISPLAY has some
 abbrev pub shown_by : Event → List ℕ
 shown_by [] = []
 shown_by (zero ∷ bytes) = bytes
 shown_by (suc verb ∷ bytes) = []
 
+-- the bytes that a trace displays
 abbrev pub displayed : Trace → List ℕ
 displayed [] = []
 displayed (event ∷ trace) = shown_by event ++ displayed trace
 
--- after so many steps the run stands so, and the sink gained what it displayed
+-- the run stands so after so many steps, and the sink gained what it displayed
 abbrev pub Stands : Program → Files → ℕ → outcome.Standing Files → SinkCall → Type 0
 Stands program files steps standing sink =
     ((source_run program files steps).standing ≡ standing)
@@ -56,10 +57,11 @@ RunsAs program files steps sink (ran.DeviceFault name) = ⊥
 RunsAs program files steps sink ran.WriteFault = BreaksWithin program files steps sink
 RunsAs program files steps sink ran.NoMemory = BreaksOff program files steps sink
 
--- the steps of the program
+-- the state of the program after one step
 abbrev pub next_state : Program → State → State
 next_state program state = step_in program (declared_in program) state
 
+-- the state of the source after so many steps
 abbrev pub after : Program → Files → ℕ → State
 after program files n =
     iterate (next_state program) n (begun_in program (declared_in program) files)
@@ -67,9 +69,13 @@ after program files n =
 -- the machine stands where the source stands after so many steps, and the sink gained what they
 -- displayed
 pub record SoFar (program : Program) (machine : Machine) (done : ℕ) (sink : SinkCall) : Type 0 where
+  -- the machine has what the program declares
   pub declared : declared_by machine.plan ≡ declared_in program
+  -- and the program itself
   pub same : machine.plan.program.now ≡ program
+  -- the sink's count of failures doesn't fall
   pub later : sink.count ≤ sink.count_now
+  -- the source's state is that of the machine, and the sink gained what it displayed
   pub reached : (files : Files) → IsPlain program → (trace : Trace) ×
       (after program files done ≡ state_in machine (world_with (declared_in program) files) trace)
       × Gained (displayed trace) sink.held sink.now

@@ -1,9 +1,8 @@
-//! The places of a program whose subscripts and windows are numbers alone, worked out before it
-//! runs.
+//! The places of a program whose subscripts and windows are numbers alone, found before it runs.
 //!
-//! `with_known` goes over all places of a program, those of subscripts and windows among them, and
-//! has the spot of each that is of numbers alone kept beside its item. The areas stay as they were
-//! for all who read them: a place is reached at the same spot, in a shorter time.
+//! `with_known` goes over all places of a program, including those in subscripts and windows, and
+//! keeps the spot of each that is of numbers alone with its item. To contracts the areas stay the
+//! same: a place is reached at the same spot, in less time.
 
 mod conditions;
 mod places;
@@ -48,7 +47,8 @@ fn know_program(areas: &mut [Area], store: &Store, program: &Program) -> Result<
     know_paragraphs(areas, store, program.paragraphs.as_slice())
 }
 
-/// The areas of a program, with the spots of its places of numbers alone.
+/// The areas of a program, with the spots of its places of numbers alone kept. To contracts they
+/// are the same.
 pub fn with_known(program: &Program, areas: Areas, store: &Store) -> Result<Areas, NoMemory>
     ensures { IfOk result (λ now. now ≡ areas) }
 {

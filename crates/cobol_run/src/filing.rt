@@ -52,7 +52,7 @@ fn place_of(place: &Option<Place>) -> Option<&Place>
     }
 }
 
-// The arm that a READ chose is to be done first.
+// Makes the arm that a READ chose the first thing to be done.
 fn push_arm<'a>(
     frames: &mut Stack<Frame<'a>>,
     arms: &'a Arms,
@@ -72,7 +72,7 @@ fn push_arm<'a>(
     Ok(done)
 }
 
-/// Does a statement on files; any other does nothing.
+/// Does a statement on files over a bench; any other statement does nothing.
 #[tactic(auto, using(crate::proofs::FallLemmas::arm_asks_none, crate::proofs::FallLemmas::none_fell))]
 pub fn filed<'a>(
     plan: &Plan,
@@ -86,7 +86,7 @@ pub fn filed<'a>(
         (map ⟦<Box<dyn Device> as Watched>⟧.seen bench.old.devices.items)
         (map ⟦<Box<dyn Device> as Watched>⟧.seen bench.new.devices.items) table.new.rows }
 
-    // over devices that tell their files it does what is meant
+    // over devices whose files are known it does what its meaning says
     ensures over { (world : World) → is_inner stmt.now ≡ false → IsOver plan.now.program.now.files
         (take bench.old.left (map ⟦<Box<dyn Device> as Watched>⟧.seen bench.old.devices.items))
         table.old.rows world → FiledOver result plan.now.program.now.files

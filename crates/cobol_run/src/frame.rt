@@ -14,7 +14,7 @@ pub enum Body<'a> {
 pub enum LoopProgress<'a> {
     Counted(u128),
     Tests(&'a Cond),
-    /// VARYING tested before; `reached` says that the test was made before.
+    /// VARYING tested before; `reached` says that the test was made at least once.
     Steps {
         reached: bool,
         item: &'a Place,
@@ -35,11 +35,11 @@ pub enum Frame<'a> {
     Stmts(&'a [Stmt]),
     /// A range that is performed once.
     Enter { entry: u32, exit: u32 },
-    /// The end of a sentence, and the sentences behind it in its paragraph.
+    /// The end of a sentence, and the sentences after it in its paragraph.
     Sentences(&'a [Sentence]),
     /// What is left of a loop.
     Turn(LoopProgress<'a>, Body<'a>),
-    /// A range was performed: it returns at the end of one paragraph, into another, where what
-    /// stands below is still to do.
+    /// A range was performed: it returns at the end of the paragraph `end` into `paragraph`, where
+    /// the frames below this one are still to do.
     Return { end: u32, paragraph: u32 },
 }

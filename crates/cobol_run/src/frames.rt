@@ -1,4 +1,4 @@
-//! The frames of a run, one on another.
+//! The stack of frames of a run.
 
 ghost use Rattle.std.specs.Prelude.{◌≡◌, ℕ, ◌∷◌, [], IfOk};
 ghost use Rattle.cob_tree.specs.declared.program.Program.{Program};
@@ -30,7 +30,7 @@ pub struct Return {
     pub paragraph: u32,
 }
 
-/// Sentences that are to be done.
+/// Adds sentences, to be done first.
 pub fn push_sentences<'a>(
     frames: &mut Stack<Frame<'a>>,
     sentences: &'a [Sentence],
@@ -47,7 +47,7 @@ pub fn push_sentences<'a>(
     Ok(())
 }
 
-/// Takes what is to be done next off.
+/// Takes off what is to be done next.
 pub fn next<'a>(frames: &mut Stack<Frame<'a>>) -> Result<Head<'a>, NoMemory>
     ensures rest { IfOk result (λ head. (last : ℕ) → rest_of last frames.old
         ≡ heads last head (rest_of last frames.new)) }
@@ -79,7 +79,7 @@ pub fn next<'a>(frames: &mut Stack<Frame<'a>>) -> Result<Head<'a>, NoMemory>
     Ok(Head::Nothing)
 }
 
-/// Statements that are to be done first.
+/// Adds statements, to be done first.
 pub fn push_stmts<'a>(frames: &mut Stack<Frame<'a>>, stmts: &'a [Stmt]) -> Result<(), NoMemory>
     ensures rest { IfOk result (λ u. (last : ℕ) → rest_of last frames.new
         ≡ before (seen_stmts last stmts.now) (rest_of last frames.old)) }
@@ -90,7 +90,7 @@ pub fn push_stmts<'a>(frames: &mut Stack<Frame<'a>>, stmts: &'a [Stmt]) -> Resul
     Ok(())
 }
 
-/// What is left of a loop, to be done first.
+/// Adds what is left of a loop, to be done first.
 pub fn push_turn<'a>(
     frames: &mut Stack<Frame<'a>>,
     turning: LoopProgress<'a>,
@@ -105,7 +105,7 @@ pub fn push_turn<'a>(
     Ok(())
 }
 
-/// A loop's body, to be done first.
+/// Adds a loop's body, to be done first.
 pub fn push_body<'a>(frames: &mut Stack<Frame<'a>>, body: Body<'a>) -> Result<(), NoMemory>
     ensures rest { IfOk result (λ u. (last : ℕ) → rest_of last frames.new
         ≡ before_body (body_seen last body.entry) (rest_of last frames.old)) }
@@ -119,7 +119,7 @@ pub fn push_body<'a>(frames: &mut Stack<Frame<'a>>, body: Body<'a>) -> Result<()
     Ok(())
 }
 
-/// A loop's body, and then what is left of the loop.
+/// Adds a loop's body, to be done first, and after it what is left of the loop.
 pub fn turn_on<'a>(
     frames: &mut Stack<Frame<'a>>,
     turning: LoopProgress<'a>,
@@ -135,7 +135,7 @@ pub fn turn_on<'a>(
     push_body(frames, body)
 }
 
-/// Leaves the paragraph: nothing of it is to be done.
+/// Leaves the paragraph: nothing of it is left to do.
 pub fn leave<'a>(frames: &mut Stack<Frame<'a>>) -> Result<(), NoMemory>
     ensures rest { IfOk result (λ u. (last : ℕ) → rest_of last frames.new ≡ []) }
     ensures pending { IfOk result (λ u. (program : Program) → pending_of program frames.new
@@ -232,7 +232,8 @@ pub fn is_pending(frames: &Stack<Frame>, end: u32) -> bool
     some_ends(frames.as_slice(), end)
 }
 
-/// Takes the return that was made last, and what is to be done before it.
+/// Takes off the last pending return, and what was to be done before it; none where no return is
+/// pending.
 pub fn take_return(frames: &mut Stack<Frame>) -> Option<Return>
     ensures { (program : Program) → TakesReturn program result frames.old frames.new }
 {

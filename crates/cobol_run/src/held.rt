@@ -1,4 +1,4 @@
-//! What a program stores, and what its parts do there.
+//! What a program stores, and what the parts of its statements do there.
 
 ghost use Rattle.std.specs.Prelude.{◌≡◌, false, [], ◌∷◌, IfOk, IsTrue, Ok, map};
 ghost use Rattle.std.specs.Int.{is_positive};
@@ -20,7 +20,7 @@ use cob_store::{Areas, Store, operand_value, place_value};
 use cob_tree::{Abend, Calc, Cond, Operand, Place, Program, Stmt, Subject, Target, When};
 use std::slice::from_ref;
 
-/// A program, and where its items lie.
+/// A program, and where its items are.
 #[derive(Drop)]
 pub struct Plan<'a> {
     pub program: &'a Program,
@@ -36,7 +36,7 @@ pub struct Held {
     pub shown: Text,
 }
 
-/// A statement that acts and needs no device.
+/// Does a statement that acts and needs no device.
 pub fn acts(plan: &Plan, held: &mut Held, stmt: &Stmt) -> Result<ActOutcome, NoMemory>
     requires inner { IsTrue (is_inner stmt.now) }
     requires empty { held.old.shown ≡ [] }
@@ -120,7 +120,7 @@ fn turns_in(number: Dec) -> u128
     }
 }
 
-/// How often TIMES runs its body.
+/// How often a loop with TIMES runs its body.
 pub fn counts(plan: &Plan, held: &Held, operand: &Operand) -> Result<u128, Abend>
     ensures { (world : World) → answered (memory_in held.now.store world) result
         ≡ counts_in (declared_by plan.now) operand.now (memory_in held.now.store world) }
@@ -154,7 +154,7 @@ pub fn names(plan: &Plan, held: &Held, names: usize, place: &Place) -> Result<us
     }
 }
 
-/// VARYING's MOVE.
+/// The MOVE of VARYING: sets its item.
 pub fn sets(
     plan: &Plan,
     held: &mut Held,
@@ -182,7 +182,7 @@ fn went(answer: Result<bool, Abend>) -> Result<(), Abend>
     Ok(())
 }
 
-/// VARYING's ADD.
+/// The ADD of VARYING: augments its item.
 pub fn augments(plan: &Plan, held: &mut Held, item: &Place, by: &Operand) -> Result<(), Abend>
     ensures { (world : World) → answered (memory_in held.new.store world) result
         ≡ does_to (declared_by plan.now) (augmenting item.now by.now)

@@ -1,13 +1,13 @@
 //! A COBOL program, run step by step.
 //!
-//! A `Machine` keeps what is still to do as frames, one on another, that point into the program:
-//! the statements of a list, the sentences behind one, what is left of a loop, and the returns that
-//! are pending. `Machine::step` makes exactly the step of the source machine (`step_in` of
-//! `cobol_meaning`), in every world where no statement on files stands in the program, and else
-//! over devices that tell their files (`FollowsOver` in specs/Over.antt): hold `state_in` in
-//! specs/Machine.antt against `SourceState`. `next_step` has what the head of the rest comes to,
-//! `statement` what each statement does and `filing` what those on files do (ISO 1989:1985,
-//! PROCEDURE DIVISION).
+//! A `Machine` keeps what is still to do as a stack of frames that point into the program: the
+//! statements of a list, the sentences after one, what is left of a loop, and the returns that are
+//! pending. `Machine::step` makes exactly the step of the source machine (`step_in` of
+//! `cobol_meaning`): in every world, where the program has no statement on files, and otherwise
+//! over devices whose files are known (`FollowsOver` in specs/Over.antt). `state_in` in
+//! specs/Machine.antt says which `SourceState` a machine is in. `next_step` says what the head of
+//! the rest comes to, `statement` what each statement does and `filing` what those on files do (ISO
+//! 1989:1985, PROCEDURE DIVISION).
 #![tactic(auto)]
 
 pub mod constant_places;

@@ -48,7 +48,7 @@ pub enum StepOutcome {
     /// It goes on, and showed bytes.
     Shown,
     Over(Ending),
-    /// A device failed, and stands right behind the bench.
+    /// A device failed, and is the first one after those on the bench.
     Failed,
 }
 
@@ -60,7 +60,7 @@ pub struct Machine<'a> {
     pub frames: Stack<Frame<'a>>,
     pub paragraph: u32,
     pub held: Held,
-    /// How its files stand.
+    /// The state of each of its files.
     pub table: FileTable,
 }
 
@@ -76,7 +76,7 @@ fn step_after(done: ActOutcome) -> StepOutcome
     }
 }
 
-// What a statement on files that broke off comes to.
+// What a statement on files that broke off comes to; the error is NoMemory.
 fn step_broken(fault: FileFault) -> Result<StepOutcome, NoMemory>
     ensures device { fault ≡ FileFault.Device → result ≡ Ok StepOutcome.Failed }
     ensures memory { fault ≡ FileFault.NoMemory → IsErr result }
@@ -121,7 +121,7 @@ fn section_last(paragraphs: &[Paragraph], paragraph: u32) -> u32
 }
 
 impl<'a> Machine<'a> {
-    /// Goes to the front of a paragraph.
+    /// Goes to the beginning of a paragraph.
     pub fn go_to(&mut self, number: u32) -> Result<(), NoMemory>
         ensures rest { IfOk result (λ u. rest_of (last_of self.old.plan.program.now number)
             self.new.frames ≡ source.rest_of (control_of self.old.plan.program.now) number) }
@@ -141,7 +141,7 @@ impl<'a> Machine<'a> {
         Ok(())
     }
 
-    // On to the next paragraph; past the last one the run stops.
+    // Goes on to the next paragraph; after the last one the run stops.
     fn fall(&mut self) -> Result<StepOutcome, NoMemory>
         requires few { IsNumbered self.old.plan }
         ensures step { IfOk result (λ step. (world : World) (trace : Trace) (rest : List Item) →
@@ -159,7 +159,7 @@ impl<'a> Machine<'a> {
         }
     }
 
-    // The end of a paragraph.
+    // Takes the end of a paragraph: a pending return, or the next paragraph.
     fn end(&mut self) -> Result<StepOutcome, NoMemory>
         requires few { IsNumbered self.old.plan }
         ensures step { IfOk result (λ step. (world : World) (trace : Trace) (rest : List Item) →
@@ -190,7 +190,7 @@ impl<'a> Machine<'a> {
         }
     }
 
-    // A range is performed, and then what is to be done.
+    // Performs a range; after it, what is to be done goes on.
     fn perform(&mut self, entry: u32, exit: u32) -> Result<StepOutcome, NoMemory>
         ensures step { IfOk result (λ step. (world : World) (trace : Trace) (rest : List Item) →
             Follows step self.new world trace (performs_by self.old.plan entry exit
@@ -212,7 +212,7 @@ impl<'a> Machine<'a> {
         Ok(StepOutcome::On)
     }
 
-    // Goes the way that the head of the rest came to.
+    // Takes the step that the head of the rest came to.
     fn go(&mut self, way: NextStep) -> Result<StepOutcome, NoMemory>
         requires few { IsNumbered self.old.plan }
         ensures step { IfOk result (λ step. (world : World) (trace : Trace) (rest : List Item)
@@ -243,7 +243,7 @@ impl<'a> Machine<'a> {
         }
     }
 
-    // A statement on files.
+    // Does a statement on files.
     #[tactic(auto, using(crate::proofs::FallLemmas::done_falls))]
     fn file_step(&mut self, bench: &mut Bench, stmt: &'a Stmt) -> Result<StepOutcome, NoMemory>
         ensures over { IfOk result (λ step. (world : World) (trace : Trace) (rest : List Item) →
@@ -280,7 +280,7 @@ impl<'a> Machine<'a> {
         }
     }
 
-    // What is next, where it isn't a statement on files.
+    // Does what is next, where it isn't a statement on files.
     fn head_step(&mut self, head: Head<'a>) -> Result<StepOutcome, NoMemory>
         requires few { IsNumbered self.old.plan }
         requires empty { self.old.held.shown ≡ [] }
@@ -311,15 +311,15 @@ impl<'a> Machine<'a> {
         }
     }
 
-    /// One step. Bytes that it shows are in `held.shown`. Its statements on files are done over the
-    /// bench, and a device that fails is taken off it.
+    /// Makes one step. The bytes that it shows are in `held.shown`. Statements on files are done
+    /// over the bench, and a device that fails is taken off it.
     #[tactic(auto, using(crate::proofs::FallLemmas::asks_none))]
     pub fn step(&mut self, bench: &mut Bench) -> Result<StepOutcome, NoMemory>
         ensures step { IfOk result (λ step. (world : World) (trace : Trace) →
             PlainState (state_in self.old world trace) → Follows step self.new world trace
             (steps_by self.old.plan (state_in self.old world trace))) }
 
-        // over devices that tell their files
+        // over devices whose files are known
         ensures over { IfOk result (λ step. (world : World) (trace : Trace) →
             OwnState (state_in self.old world trace) → StandsOver self.old (take bench.old.left
             (map ⟦<Box<dyn Device> as Watched>⟧.seen bench.old.devices.items)) world →
@@ -339,7 +339,7 @@ impl<'a> Machine<'a> {
             (map ⟦<Box<dyn Device> as Watched>⟧.seen bench.new.devices.items) }
         ensures plan { self.new.plan ≡ self.old.plan }
 
-        // without statements on files the devices are left alone
+        // without statements on files the devices aren't used
         ensures kept { (world : World) (trace : Trace) → PlainState (state_in self.old world trace) →
             (bench.new ≡ bench.old) × (self.new.table ≡ self.old.table) }
     {

@@ -50,7 +50,7 @@ fn way_of(done: ActOutcome) -> NextStep
     }
 }
 
-/// A statement that acts and needs no device.
+/// Does a statement that acts and needs no device.
 pub fn simple_way(plan: &Plan, held: &mut Held, stmt: &Stmt) -> Result<NextStep, NoMemory>
     requires inner { IsTrue (is_inner stmt.now) }
     requires empty { held.old.shown ≡ [] }
@@ -63,7 +63,7 @@ pub fn simple_way(plan: &Plan, held: &mut Held, stmt: &Stmt) -> Result<NextStep,
     Ok(way_of(done))
 }
 
-/// IF.
+/// IF: its chosen statements are to be done first.
 pub fn if_way<'a>(
     plan: &Plan,
     frames: &mut Stack<Frame<'a>>,
@@ -86,6 +86,7 @@ pub fn if_way<'a>(
     }
 }
 
+/// The statements of an arm; none where it isn't written.
 pub fn stmts_or_none(stmts: &Option<Items<Stmt>>) -> &[Stmt]
     ensures { result.now ≡ stmts_or_none stmts.now }
 {
@@ -107,7 +108,7 @@ fn arm_at<'a>(whens: &'a [When], other: &'a Option<Items<Stmt>>, arm: usize) -> 
     }
 }
 
-/// EVALUATE.
+/// EVALUATE: the statements of the arm that it chooses are to be done first.
 pub fn evaluate_way<'a>(
     plan: &Plan,
     frames: &mut Stack<Frame<'a>>,
@@ -131,7 +132,8 @@ pub fn evaluate_way<'a>(
     }
 }
 
-/// Arithmetic with a phrase on size errors.
+/// Arithmetic with a phrase on size errors: the statements of the arm that it chooses are to be
+/// done first.
 pub fn arith_way<'a>(
     plan: &Plan,
     frames: &mut Stack<Frame<'a>>,
@@ -159,7 +161,7 @@ pub fn arith_way<'a>(
     }
 }
 
-/// GO TO DEPENDING: the name with that number, or on.
+/// GO TO DEPENDING: to the name with that number, or on where there is none.
 pub fn go_depending_way(plan: &Plan, held: &Held, to: &[u32], on: &Place) -> NextStep
     ensures { (world : World) (last : ℕ) (rest : List Item) →
         way_seen last result held.now.shown (memory_in held.now.store world) rest
@@ -176,7 +178,7 @@ pub fn go_depending_way(plan: &Plan, held: &Held, to: &[u32], on: &Place) -> Nex
     }
 }
 
-/// A loop by TIMES begins.
+/// Begins a loop by TIMES.
 pub fn times_way<'a>(
     plan: &Plan,
     frames: &mut Stack<Frame<'a>>,
@@ -198,7 +200,7 @@ pub fn times_way<'a>(
     }
 }
 
-/// A loop by UNTIL begins.
+/// Begins a loop by UNTIL.
 pub fn until_way<'a>(
     plan: &Plan,
     frames: &mut Stack<Frame<'a>>,
@@ -221,7 +223,7 @@ pub fn until_way<'a>(
     Ok(NextStep::On)
 }
 
-/// What a turn of VARYING is told.
+/// The data of a turn of VARYING.
 #[derive(Clone, Copy)]
 pub struct Stepped<'a> {
     pub item: &'a Place,
@@ -229,7 +231,7 @@ pub struct Stepped<'a> {
     pub until: &'a Cond,
 }
 
-/// What a loop by VARYING is told.
+/// The data of a loop by VARYING.
 #[derive(Clone, Copy)]
 pub struct Varied<'a> {
     pub after: bool,
@@ -263,7 +265,7 @@ fn begin_steps<'a>(
     }
 }
 
-/// A loop by VARYING begins.
+/// Begins a loop by VARYING.
 pub fn varying_way<'a>(
     plan: &Plan,
     frames: &mut Stack<Frame<'a>>,
@@ -288,7 +290,7 @@ pub fn varying_way<'a>(
     }
 }
 
-// A test of a loop: one more turn, or none.
+// Makes a test of a loop: one more turn, or none.
 fn test_turn<'a>(
     plan: &Plan,
     frames: &mut Stack<Frame<'a>>,
@@ -389,7 +391,7 @@ fn steps_after_way<'a>(
     Ok(NextStep::On)
 }
 
-/// What is left of a loop.
+/// Does what is left of a loop: one more turn, or none.
 pub fn turning_way<'a>(
     plan: &Plan,
     frames: &mut Stack<Frame<'a>>,
@@ -421,7 +423,7 @@ pub fn turning_way<'a>(
     }
 }
 
-/// A loop begins; under `Once` its body is done.
+/// Begins a loop; under `Once` its body is done once.
 pub fn control_way<'a>(
     plan: &Plan,
     frames: &mut Stack<Frame<'a>>,

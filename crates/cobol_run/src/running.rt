@@ -1,6 +1,6 @@
 //! A whole run.
 
-ghost use Rattle.std.specs.Prelude.{◌≡◌, ◌≢◌, ◌<◌, ◌≤◌, vec_len, ◌^◌, [], ℕ, List, IfOk, false, length, map, replicate, slice_get, take};
+ghost use Rattle.std.specs.Prelude.{◌≡◌, ◌≢◌, ◌<◌, ◌≤◌, vec_capacity, vec_len, ◌^◌, [], ℕ, List, IfOk, IfSome, false, length, map, replicate, slice_get, take};
 ghost use Rattle.std.specs.declared.option.Option.{Option};
 ghost use Rattle.cob_tree.specs.declared.program.Program.{Program};
 ghost use Rattle.cob_base.specs.Faults.{Rose};
@@ -10,7 +10,7 @@ ghost use Rattle.cobol_theory.specs.cobol_meaning.Runs.{Files, begun_in, world_w
 ghost use Rattle.file_model.specs.Status.{closed_row};
 ghost use Rattle.file_model.specs.operations.Seen.{Seen};
 ghost use Rattle.cobol_run.specs.declared.machine.Machine.{Machine};
-ghost use Rattle.cobol_run.specs.Falling.{NamesDevice, RunFalls, TurnFalls, breaks_off};
+ghost use Rattle.cobol_run.specs.Falling.{NamesDevice, NamesFit, RunFalls, TurnFalls, breaks_off};
 ghost use Rattle.cobol_run.specs.Filing.{some_open};
 ghost use Rattle.cobol_run.specs.Machine.{state_in};
 ghost use Rattle.cobol_run.specs.Over.{FilesEnd, RunEnds, SoFarOver, StepsEnd, TurnsOver};
@@ -30,21 +30,22 @@ use cob_tree::Program;
 use file_model::operations::Watched;
 use file_model::{Bench, Device, FileTable};
 use std::alloc::Global;
+use std::mem;
 
 /// How a run ended.
 #[derive(Drop)]
 pub enum Ran {
     Ended(Ending),
-    /// It is still going after its last step.
+    /// It still ran after its last step.
     Budget,
-    /// The device of that name failed, and is behind the bench.
+    /// The device of that name failed, and is off the bench.
     DeviceFault(Text),
     /// The sink failed.
     WriteFault,
     NoMemory,
 }
 
-// No file is open.
+// The table of a program's files, none of them open.
 #[tactic(auto, using(crate::proofs::RunningLemmas::none_open))]
 fn table_of(alloc: Global, program: &Program) -> Result<FileTable, NoMemory>
     ensures closed { IfOk result (λ table. table.rows
@@ -59,7 +60,7 @@ fn table_of(alloc: Global, program: &Program) -> Result<FileTable, NoMemory>
     FileTable::new(alloc, files as u32)
 }
 
-/// A program at its start.
+/// A machine at the start of this program, which must have fewer than 2^31 entries.
 pub fn start<'a>(alloc: Global, program: &'a Program) -> Result<Machine<'a>, NoMemory>
     requires entries { length program.now.entries < 2 ^ 31 }
     ensures begun { IfOk result (λ machine. (files : Files) →
@@ -91,25 +92,25 @@ pub fn start<'a>(alloc: Global, program: &'a Program) -> Result<Machine<'a>, NoM
     Ok(machine)
 }
 
-/// What a step with its display comes to.
+/// What a step, with its display, comes to.
 #[derive(Clone, Copy)]
 pub enum Turned {
     On,
     Over(Ending),
-    /// A device failed, and stands right behind the bench.
+    /// A device failed, and is the first one after those on the bench.
     Failed,
     WriteFault,
     NoMemory,
 }
 
-// A step, and what it displays into the sink.
+// Makes a step, and writes what it displays to the sink.
 fn make_turn<K: Sink>(machine: &mut Machine, bench: &mut Bench, out: &mut K) -> Turned
     ensures turned { (program : Program) (done : ℕ) (held : Option (List ℕ)) (count : ℕ) →
         SoFar program machine.old done (since held count (K.held out.old) (K.faults out.old)) →
         TurnsTo program machine.new done (since held count (K.held out.new) (K.faults out.new))
         result }
 
-    // over devices that tell their files
+    // over devices whose files are known
     ensures over { (program : Program) (files : Files) (done : ℕ) (held : Option (List ℕ))
         (count : ℕ) → IsOwn program → SoFarOver program files machine.old (take bench.old.left
         (map ⟦<Box<dyn Device> as Watched>⟧.seen bench.old.devices.items)) done
@@ -126,7 +127,7 @@ fn make_turn<K: Sink>(machine: &mut Machine, bench: &mut Bench, out: &mut K) -> 
         (map ⟦<Box<dyn Device> as Watched>⟧.seen bench.new.devices.items)
         machine.new.table.rows }
 
-    // without statements on files the devices are left alone
+    // without statements on files the devices aren't used
     ensures kept { (program : Program) (done : ℕ) (sink : SinkCall) →
         SoFar program machine.old done sink → IsPlain program →
         (bench.new ≡ bench.old) × (machine.new.table ≡ machine.old.table) }
@@ -155,30 +156,59 @@ fn device_name(device: &Box<dyn Device>) -> &[u8]
     device.name()
 }
 
-// The answer where the device at that place failed.
-fn device_fault(alloc: Global, bench: &Bench, at: usize) -> Ran
+// Makes room for the name of each device, so that a device fault needs no memory.
+fn name_room(alloc: Global, bench: &Bench) -> Result<Vec<u8>, NoMemory>
+    ensures { IfOk result (λ room. NamesFit (vec_capacity room)
+        (map ⟦<Box<dyn Device> as Watched>⟧.seen bench.now.devices.items)) }
+{
+    let mut room: Vec<u8> = Vec::new(alloc);
+    for at in 0..bench.devices.len() {
+        add_room(&mut room, bench, at)?;
+    }
+    Ok(room)
+}
+
+// Room for the name of the device at that place too.
+fn add_room(room: &mut Vec<u8>, bench: &Bench, at: usize) -> Result<(), NoMemory>
+    requires { at < vec_len bench.now.devices }
+    ensures more { vec_capacity room.old ≤ vec_capacity room.new }
+    ensures fits { IfOk result (λ u. IfSome
+        (slice_get (map ⟦<Box<dyn Device> as Watched>⟧.seen bench.now.devices.items) at)
+        (λ device. length device.name ≤ vec_capacity room.new)) }
+{
+    room.clear();
+    room.try_reserve(device_name(&bench.devices[at]).len())?;
+    Ok(())
+}
+
+// The answer where the device at that place failed, whose name the room is for.
+fn device_fault(alloc: Global, room: &mut Vec<u8>, bench: &Bench, at: usize) -> Ran
     ensures live { result ≢ Ran.WriteFault }
-    ensures named { NamesDevice result
+    ensures named { NamesDevice (vec_capacity room.old) result
         (slice_get (map ⟦<Box<dyn Device> as Watched>⟧.seen bench.now.devices.items) at) }
 {
     if at >= bench.devices.len() {
         return Ran::NoMemory;
     }
-    let mut name = Text::new(alloc);
-    match name.add(device_name(&bench.devices[at])) {
-        Ok(()) => Ran::DeviceFault(name),
+    let mut name = mem::replace(room, Vec::new(alloc));
+    name.clear();
+    match name.extend_from_slice(device_name(&bench.devices[at])) {
+        Ok(()) => Ran::DeviceFault(Text { bytes: name }),
         Err(_) => Ran::NoMemory,
     }
 }
 
-// At most so many steps.
+// Makes at most so many steps.
 fn run_on<K: Sink>(
     alloc: Global,
+    room: &mut Vec<u8>,
     machine: &mut Machine,
     bench: &mut Bench,
     out: &mut K,
     steps: u64,
 ) -> Ran
+    requires { NamesFit (vec_capacity room.old)
+        (map ⟦<Box<dyn Device> as Watched>⟧.seen bench.old.devices.items) }
     ensures run { (program : Program) (files : Files) →
         SoFar program machine.old 0 (since (K.held out.old) (K.faults out.old)
         (K.held out.old) (K.faults out.old)) → IsPlain program → RunsAs program files steps
@@ -192,13 +222,16 @@ fn run_on<K: Sink>(
         (sink_call K.held K.faults out.old out.new) bench.old.left bench.new.left
         (map ⟦<Box<dyn Device> as Watched>⟧.seen bench.old.devices.items)
         (map ⟦<Box<dyn Device> as Watched>⟧.seen bench.new.devices.items) result }
+
+    // a device that failed isn't reported as out of memory
+    ensures memory { result ≡ Ran.NoMemory → bench.new.left ≡ bench.old.left }
 {
     let left = bench.left;
     for turn in 0..steps {
         match make_turn(machine, bench, out) {
             Turned::On => {}
             Turned::Over(ending) => return Ran::Ended(ending),
-            Turned::Failed => return device_fault(alloc, bench, left.saturating_sub(1)),
+            Turned::Failed => return device_fault(alloc, room, bench, left.saturating_sub(1)),
             Turned::WriteFault => return Ran::WriteFault,
             Turned::NoMemory => return Ran::NoMemory,
         }
@@ -224,9 +257,15 @@ fn breaks_off(ran: &Ran) -> bool
     }
 }
 
-// Closes the files that are open, on the devices that are left. A device that fails there is told,
-// unless the run broke off before.
-fn close_files(alloc: Global, machine: &mut Machine, bench: &mut Bench, ran: Ran) -> Ran
+// Closes the files that are open, on the devices that are left. A device that fails there is
+// reported, unless the run broke off before.
+fn close_files(
+    alloc: Global,
+    room: &mut Vec<u8>,
+    machine: &mut Machine,
+    bench: &mut Bench,
+    ran: Ran,
+) -> Ran
     ensures shut { some_open machine.old.table.rows ≡ false →
         (result ≡ ran) × (bench.new ≡ bench.old) }
     ensures cause { result ≡ Ran.WriteFault → ran ≡ Ran.WriteFault }
@@ -236,6 +275,12 @@ fn close_files(alloc: Global, machine: &mut Machine, bench: &mut Bench, ran: Ran
         (map ⟦<Box<dyn Device> as Watched>⟧.seen bench.old.devices.items) ran →
         FilesEnd start steps sink left bench.new.left old
         (map ⟦<Box<dyn Device> as Watched>⟧.seen bench.new.devices.items) result }
+
+    // a device that failed isn't reported as out of memory
+    ensures memory { length machine.old.plan.program.now.files < 2 ^ 32 →
+        NamesFit (vec_capacity room.old)
+        (map ⟦<Box<dyn Device> as Watched>⟧.seen bench.old.devices.items) →
+        result ≡ Ran.NoMemory → ran ≡ Ran.NoMemory }
 {
     if !some_open(&machine.table) {
         return ran;
@@ -244,14 +289,14 @@ fn close_files(alloc: Global, machine: &mut Machine, bench: &mut Bench, ran: Ran
     let files = machine.plan.program.files.as_slice();
     let failed = close_left(bench, &mut machine.table, files);
     if failed && !breaks_off(&ran) && left > 0 {
-        device_fault(alloc, bench, left - 1)
+        device_fault(alloc, room, bench, left - 1)
     } else {
         ran
     }
 }
 
-/// Runs a program over a bench for at most so many steps. What it displays goes to `out`, which is
-/// made ready before each display. At the end its files that are open are closed.
+/// Runs a program over a bench for at most so many steps. What it displays goes to `out`, in which
+/// room is made before each display. At the end the files that it left open are closed.
 pub fn run<K: Sink>(
     alloc: Global,
     program: &Program,
@@ -263,8 +308,8 @@ pub fn run<K: Sink>(
     ensures run { (files : Files) → IsPlain program.now → RunsAs program.now files steps
         (sink_call K.held K.faults out.old out.new) result }
 
-    // what is left of the bench; where the devices that the program uses tell their files, these are
-    // those of its run, and none that it opened is open
+    // what is left of the bench; where the files of the devices that the program uses are known,
+    // they are as its run leaves them, and none that it opened is open
     ensures ends { RunEnds program.now steps (sink_call K.held K.faults out.old out.new)
         bench.old.left bench.new.left
         (map ⟦<Box<dyn Device> as Watched>⟧.seen bench.old.devices.items)
@@ -274,7 +319,7 @@ pub fn run<K: Sink>(
         (map ⟦<Box<dyn Device> as Watched>⟧.seen bench.old.devices.items)
         (map ⟦<Box<dyn Device> as Watched>⟧.seen bench.new.devices.items) }
 
-    // without statements on files the devices are left alone
+    // without statements on files the devices aren't used
     ensures kept { IsPlain program.now → bench.new ≡ bench.old }
 {
     if program.entries.len() >= 1 << 31 {
@@ -283,6 +328,9 @@ pub fn run<K: Sink>(
     let Ok(mut machine) = start(alloc, program) else {
         return Ran::NoMemory;
     };
-    let ran = run_on(alloc, &mut machine, bench, out, steps);
-    close_files(alloc, &mut machine, bench, ran)
+    let Ok(mut room) = name_room(alloc, bench) else {
+        return Ran::NoMemory;
+    };
+    let ran = run_on(alloc, &mut room, &mut machine, bench, out, steps);
+    close_files(alloc, &mut room, &mut machine, bench, ran)
 }

@@ -29,7 +29,7 @@ pub struct Entered {
     pub exit: u32,
 }
 
-/// The range of a PERFORM once.
+/// The range of a PERFORM without a control; none for any other statement.
 pub fn performed_once(stmt: &Stmt) -> Option<Entered>
     ensures of { result ≡ once_of stmt.now }
     ensures seen { IfSome result (λ range. (last : ℕ) → seen last stmt.now
@@ -53,7 +53,7 @@ pub fn performed_once(stmt: &Stmt) -> Option<Entered>
     }
 }
 
-/// What a statement comes to, but for a PERFORM once.
+/// What a statement other than a PERFORM without a control comes to.
 pub fn stmt_way<'a>(
     plan: &Plan,
     frames: &mut Stack<Frame<'a>>,
@@ -118,7 +118,7 @@ pub fn stmt_way<'a>(
             Ok(NextStep::On)
         }
         Stmt::Continue => simple_way(plan, held, stmt),
-        // Statements on files are done over a bench.
+        // Statements on files are done by `filing`, over a bench.
         Stmt::Opens(_) => Ok(NextStep::On),
         Stmt::Closes(_) => Ok(NextStep::On),
         Stmt::Read { .. } => Ok(NextStep::On),

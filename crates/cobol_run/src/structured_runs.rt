@@ -12,8 +12,8 @@ pub fn runs_show_nested_statements()
     a_structured_program_behaves_as_itself();
 }
 
-/// The same over devices that tell their files: they tell in the end what the nested statements
-/// leave.
+/// The same over devices whose files are known: at the end these are as the nested statements leave
+/// them.
 pub fn runs_over_files_show_nested_statements()
     ensures { RunsOverFilesShowNestedStatements }
 {

@@ -1,6 +1,6 @@
 -- What COBOL programs mean.
 pub mod cobol_meaning
--- What a program's parts do isn't changed by items that stand behind the program's own.
+-- What a program's parts do isn't changed by items that follow the program's own.
 pub mod added_items
 -- Items that restructuring adds: flags, counters and states, each a number item of level 01.
 pub mod cell_items

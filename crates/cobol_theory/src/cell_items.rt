@@ -11,13 +11,13 @@ pub fn moved_numbers_are_held()
     ensures { MovedNumbersAreHeld }
 {}
 
-/// An operand that is worth a whole number is moved to such an item as that number, and one that
+/// An operand whose value is a whole number is moved to such an item as that number, and one that
 /// can't be read ends the run.
 pub fn moved_values_are_held()
     ensures { MovedValuesAreHeld }
 {}
 
-/// Beside a literal such an item is compared by the number that its root holds.
+/// Such an item is compared with a literal by the number that its root holds.
 pub fn held_numbers_are_compared()
     ensures { HeldNumbersAreCompared }
 {}
@@ -28,8 +28,8 @@ pub fn held_numbers_are_lowered()
     ensures { HeldNumbersAreLowered }
 {}
 
-/// EVALUATE of such an item beside the numbers from 1 on takes the arm of the number that its root
-/// holds.
+/// EVALUATE of such an item, with a WHEN for each number from 1 on, takes the arm of the number
+/// that its root holds.
 pub fn held_numbers_choose()
     ensures { HeldNumbersChoose }
 {}

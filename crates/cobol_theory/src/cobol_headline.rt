@@ -1,7 +1,7 @@
-//! The headline for COBOL programs: what a program is written as behaves as it did.
+//! The headline for COBOL programs: what is written for a program behaves as the program.
 //!
-//! It joins the headline over control with what COBOL's parts and items do. Nothing here runs: the
-//! function is a law.
+//! It combines the headline over control with what COBOL's parts and items do. Nothing here runs:
+//! the function is a law.
 
 ghost use Rattle.cobol_theory.specs.cobol_headline.Alike.{WhatAProgramIsWrittenAsBehavesAlike};
 

@@ -2,8 +2,9 @@
 //!
 //! `source_run` is the theory's source machine over a program's control, whose parts do what
 //! `meanings::statements` says to the store and to the world; `structural_run` is what its nested
-//! statements mean; `SameBehaviour` says that two programs can't be told apart from outside. Hold
-//! `Acting` against the table of docs/MEANING.md. Nothing here runs: the functions are laws.
+//! statements mean; `SameBehaviour` says that two programs can't be distinguished from outside.
+//! `Acting` is to be compared with the table of docs/MEANING.md. Nothing here runs: the functions
+//! are laws.
 
 ghost use Rattle.cobol_theory.specs.cobol_meaning.Laws.{StructuredBehavesAsItself, StructuredMeetsNoFault};
 

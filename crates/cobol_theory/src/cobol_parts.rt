@@ -1,25 +1,25 @@
-//! The parts of COBOL programs meet what the theory of control asks of parts.
+//! The parts of COBOL programs meet what the theory of control requires of parts.
 //!
-//! `flow_facts_of` of `program_facts::completion` says what lowering is told of them: which
+//! `flow_facts_of` of `program_facts::completion` says what lowering knows of them: which
 //! statements do nothing, how many arms a choice has, and which READ never comes to its first arm.
-//! The laws say that the parts, as `cobol_meaning` has them, do what is told. Nothing here runs:
-//! the functions are laws.
+//! The laws say that this is true of the parts, as `cobol_meaning` has them. Nothing here runs: the
+//! functions are laws.
 
 ghost use Rattle.cobol_theory.specs.cobol_parts.Laws.{CobolChoosersGiveSomeArm, CobolPartsDoWhatIsTold, CobolProgramsAreSources};
 
 /// CONTINUE and EXIT do nothing, and each choice gives one of its arms: the first of a READ only
-/// where AT END or a status item stands.
+/// where it has AT END or a status item.
 pub fn cobol_parts_do_what_is_told()
     ensures { CobolPartsDoWhatIsTold }
 {}
 
-/// Of each choice some arm may be given.
+/// Each choice can give some arm.
 pub fn cobol_choosers_give_some_arm()
     ensures { CobolChoosersGiveSomeArm }
 {}
 
 /// A program whose statements name items and paragraphs of its own alone, and whose inline loops
-/// say how they turn, is a source.
+/// have a control, is a source.
 pub fn cobol_programs_are_sources()
     ensures { CobolProgramsAreSources }
 {}

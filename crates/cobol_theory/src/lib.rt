@@ -1,10 +1,9 @@
-//! From control to COBOL: what COBOL programs mean, and that what one is written as behaves as it
-//! did.
+//! From control to COBOL: what COBOL programs mean, and that what is written for one behaves as it.
 //!
-//! Begin with `specs/cobol_meaning`: hold `Acting.antt` against the table of docs/MEANING.md, and
-//! `Same.antt` against what it calls the same behaviour. `specs/cobol_headline/Alike.antt` is the
-//! headline, with its premises; that a program's parts and its added items meet these, the other
-//! modules say. Nothing here runs.
+//! Begin with `specs/cobol_meaning`: `Acting.antt` is to be compared with the table of
+//! docs/MEANING.md, and `Same.antt` with what that calls the same behaviour.
+//! `specs/cobol_headline/Alike.antt` is the headline, with its premises; the other modules say that
+//! a program's parts and its added items meet these. Nothing here runs.
 #![tactic(auto)]
 
 pub mod added_items;

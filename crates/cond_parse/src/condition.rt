@@ -18,7 +18,7 @@ use parser_combinators::{Cursor, Position, Unread, Why};
 use std::alloc::Global;
 use symbol_tables::data_names::NameTable;
 
-/// Goes on with a condition behind AND.
+/// Goes on with a condition after AND.
 #[cycle(conds)]
 #[tactic(auto, unfolding(cobol_grammar::specs::cond_forms::Condition::and_part))]
 fn and_part(
@@ -49,7 +49,7 @@ fn and_part(
     }
 }
 
-/// Goes on with a condition behind OR.
+/// Goes on with a condition after OR.
 #[cycle(conds)]
 #[tactic(auto, unfolding(cobol_grammar::specs::cond_forms::Condition::or_part))]
 fn or_part(
@@ -80,7 +80,7 @@ fn or_part(
     }
 }
 
-/// One more part behind AND or OR.
+/// Reads one more part after AND or OR.
 #[cycle(conds)]
 #[tactic(auto, unfolding(cobol_grammar::specs::cond_forms::Condition::join))]
 fn join(cursor: &mut Cursor<'_>, context: ExprContext<'_>, state: Joined) -> Result<Joined, Unread>
@@ -125,7 +125,7 @@ fn joins_from(
     Ok(state)
 }
 
-/// Goes on behind the first part of a condition.
+/// Goes on after the first part of a condition.
 #[cycle(conds)]
 #[tactic(auto, unfolding(cobol_grammar::specs::cond_forms::Condition::conds_from))]
 fn conds_from(
@@ -259,7 +259,7 @@ fn in_content(cursor: &mut Cursor<'_>, context: ExprContext<'_>, count: u32) -> 
     }
 }
 
-/// What stands in parentheses: an expression alone, or a condition.
+/// Reads what is in parentheses: an expression alone, or a condition.
 #[cycle(conds)]
 pub fn content(
     cursor: &mut Cursor<'_>,
@@ -308,8 +308,7 @@ pub fn cond(alloc: Global, cursor: &mut Cursor<'_>, names: &NameTable) -> Result
     cond_with(cursor, context, 0)
 }
 
-/// Reads a condition, and whether a NOT stood behind it that isn't its own. That NOT is then read
-/// too.
+/// Reads a condition, and whether a NOT after it isn't its own. That NOT is then read too.
 #[tactic(auto, unfolding(cobol_grammar::specs::cond_forms::Condition::whole_cond))]
 pub fn whole_cond(
     alloc: Global,

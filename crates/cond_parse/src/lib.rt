@@ -4,8 +4,8 @@
 //! expressions), by `Reads`: what it takes, what it gives, and where and why it stops. Statements
 //! call `whole_cond`.
 //!
-//! Trees are let go by calls of `drop`, so a call that may stop while one is held has a `match` and
-//! no `?`: docs/PROOF_COSTS.md says why.
+//! Trees are dropped by calls of `drop`, so a call that may stop while a tree is alive is in a
+//! `match`, without `?`: docs/PROOF_COSTS.md says why.
 #![tactic(auto)]
 
 mod condition;

@@ -22,7 +22,7 @@ use expr_parse::{ExprContext, operand};
 use parser_combinators::{Cursor, Unread, Why};
 use std::alloc::Global;
 
-/// The relation of the left side that was set, with another sign.
+/// The relation of the left side of an abbreviation, with another sign.
 fn abbreviated_part(
     alloc: Global,
     setting: Setting,
@@ -83,7 +83,7 @@ fn abbreviated_by(
     Ok(abbreviated_part(context.alloc, setting, sign, right, count)?)
 }
 
-/// A relation that begins with its sign.
+/// Reads a relation that begins with its sign.
 #[tactic(auto, unfolding(cobol_grammar::specs::cond_forms::Neg::abbreviated))]
 pub fn abbreviated(
     cursor: &mut Cursor<'_>,

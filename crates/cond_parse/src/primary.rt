@@ -26,7 +26,7 @@ fn side_prim(
     tested(cursor, context, left, before, count)
 }
 
-/// Behind parentheses it is decided what stood in them.
+/// Decides after parentheses what was in them.
 #[tactic(auto, unfolding(cobol_grammar::specs::cond_forms::Primary::prim_behind))]
 pub fn prim_behind(
     cursor: &mut Cursor<'_>,

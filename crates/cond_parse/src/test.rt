@@ -1,4 +1,4 @@
-//! Tests behind a side.
+//! Tests after a side.
 
 ghost use Rattle.std.specs.Prelude.{Some};
 ghost use Rattle.cob_base.specs.Answers.{Makes};
@@ -16,7 +16,7 @@ use expr_parse::{ExprContext, expr};
 use parser_combinators::{Cursor, Unread};
 use std::alloc::Global;
 
-/// The relation of two sides, with what abbreviations behind it stand for.
+/// The relation of two sides, with what abbreviations after it stand for.
 fn relation_read(
     alloc: Global,
     left: Side,
@@ -45,7 +45,7 @@ fn relation_read(
     }
 }
 
-/// The relation that begins with this left side, before which so many terms stand.
+/// Reads the relation that begins with this left side, before which there are so many terms.
 #[tactic(auto, unfolding(cobol_grammar::specs::cond_forms::Test::relation))]
 fn relation(
     cursor: &mut Cursor<'_>,
@@ -142,7 +142,7 @@ fn behind_is(
     }
 }
 
-/// The test of this left side, where one follows.
+/// Reads the test of this left side, where one follows.
 #[tactic(auto, unfolding(cobol_grammar::specs::cond_forms::Test::tested))]
 pub fn tested(
     cursor: &mut Cursor<'_>,

@@ -1,5 +1,5 @@
-//! What conditions are read with that needs no expression: relation signs and the words of tests,
-//! what a side without a test is, and what AND and OR join.
+//! The parts of conditions that hold no expression: relation signs and the words of tests, what a
+//! side without a test is, and what AND and OR join.
 //!
 //! Each function reads or makes exactly what the definition of its name in `cond_forms` says
 //! (ISO 1989:1985, conditional expressions).

@@ -19,7 +19,7 @@ pub mod Loops
 pub mod Shapes
 -- Graphs of ranges as lists of nodes, and how Join, Loop and Inline reduce them.
 pub mod Reduced
--- What is said of the rules: the walk by recursion is the walk step by step, each rule keeps what a
+-- What holds of the rules: the walk by recursion is the walk step by step, each rule keeps what a
 -- walk does, and a shaped family does what it did.
 pub mod Laws
 -- Small graphs, and what shaping makes of them.

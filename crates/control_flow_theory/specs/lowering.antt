@@ -1,6 +1,6 @@
--- What lowering is told of the parts that it doesn't look inside, and what is said of them.
+-- What lowering knows of the parts that it doesn't look inside, and what holds of them.
 pub mod FlowFacts
--- What a statement holds, whether it can complete, and what stands behind one that can't.
+-- What a statement holds, whether it can complete, and what follows one that can't.
 pub mod Completes
 -- Lowering: the trees that are built from rests, and the nodes of a range. A counter cell has the
 -- number of the place of its loop. Rendering numbers cells anew, in the order of their first
@@ -15,10 +15,10 @@ pub mod Reached
 -- Cells may be numbered anew: each range's by a numbering of its own, under which no two cells are
 -- one.
 pub mod Renamed
--- What holds of each lowered graph by its form: no escape stands in a body, each Pick has its arms,
--- each jump leads to a node, and the labels rise.
+-- What holds of each lowered graph by its form: there is no escape in a body, each Pick has its
+-- arms, each jump leads to a node, and the labels rise.
 pub mod WellFormed
--- What is said of lowering: what the source does the walk does, no walk is lost, and flow paths
+-- What holds of lowering: what the source does the walk does, no walk is lost, and flow paths
 -- tell all that is asked.
 pub mod Laws
 -- Two small programs and some of their nodes.

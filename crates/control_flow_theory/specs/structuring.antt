@@ -14,7 +14,7 @@ pub mod Targets
 pub mod Keeps
 -- What Exits and the dispatch make of a graph, and the order of all rules.
 pub mod Closes
--- What is said of the rules that bring a number in a cell, and of all rules in their order.
+-- What holds of the rules that bring a number in a cell, and of all rules in their order.
 pub mod Laws
 -- Two worked programs: a loop with two exits, and two labels that jump into each other from two
 -- entries.

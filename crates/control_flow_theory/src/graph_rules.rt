@@ -1,9 +1,9 @@
 //! Join, Inline and the loop in its four forms keep what the walk of a family does.
 //!
 //! In `specs/graph_rules`, `Joins.antt`, `Inlines.antt` and `Loops.antt` are the rules as
-//! relations, `Shapes.antt` and `Reduced.antt` the functions that are in them. Each law says: the
-//! same by steps, within eight times the units both ways, and sound where it was sound. Nothing
-//! here runs: the contracts are the laws.
+//! relations, `Shapes.antt` and `Reduced.antt` the functions that belong to these relations. Each
+//! law says: the same by steps, within eight times the units both ways, and sound where it was
+//! sound. Nothing here runs: the contracts are the laws.
 
 ghost use Rattle.control_flow_theory.specs.graph_rules.Laws.{JoinGives, OneJoinGives, JoinsAddUp, NoJoinIsLeft, InlineGives, EndlessGives, FlagGives, FormGives, ShapingEnds, ShapedIsClosed, SingleIsLast, ShapedKeeps, ShapedMainIsTied, WalkTakesItsUnits, WalksAreTied, JoinKeeps, PruneKeeps, InlineKeeps, TestedKeeps, LoopKeeps, WalkSeesItsCells, KeptFromAgreeing, SoundBySteps};
 ghost use Rattle.control_flow_theory.specs.graph_rules.Examples.{AFlagLoop, ALoopBefore, ALoopAfter, AnEndlessLoop, AJoinAndAnInline};
@@ -52,7 +52,7 @@ pub fn loop_keeps<Memory, Left>()
     ensures { LoopKeeps Memory Left }
 {}
 
-/// What the functions of the rules give is in their relations.
+/// What the functions of the rules give is as their relations say.
 pub fn functions_give_the_rules()
     ensures join { JoinGives }
     ensures one_join { OneJoinGives }
@@ -77,8 +77,8 @@ pub fn shaped_keeps<Memory, Left>()
     ensures main { ShapedMainIsTied Memory Left }
 {}
 
-/// Of small graphs: a loop with a flag, tested before, tested after and endless, a join and a node
-/// in place of a jump.
+/// Examples of small graphs: a loop with a flag, tested before, tested after and endless, a join
+/// and a node in place of a jump.
 pub fn small_graphs_are_shaped_as_said()
     ensures flag { AFlagLoop }
     ensures before { ALoopBefore }

@@ -1,5 +1,5 @@
-//! A program as far as control goes: statements that act, choices with their arms, loops, PERFORM
-//! and the jumps, over the tree's own parts.
+//! The control of a program: statements that act, choices with their arms, loops, PERFORM and the
+//! jumps, over the tree's own parts.
 //!
 //! `specs/language/Language.antt` has the types, `specs/language/Control.antt` the fold that takes
 //! a program of the tree to them, and `specs/language/Items.antt` what is still to do at a place
@@ -8,8 +8,8 @@
 
 ghost use Rattle.control_flow_theory.specs.language.Laws.{ControlLosesNothing, OwnItemsAlone, SourceControlLosesNothing};
 
-/// Two programs with one control have the same statements, sentence by sentence: where no word on
-/// an added item stands in it, and so where each item number of one of them is below 2^31.
+/// Two programs with the same control have the same statements, sentence by sentence: where it
+/// holds no word on an added item, and so where each item number of one of them is below 2^31.
 pub fn control_loses_nothing()
     ensures any { ControlLosesNothing }
     ensures source { SourceControlLosesNothing }

@@ -2,8 +2,9 @@
 //! as a structured program that behaves as the source, whatever its parts do to a memory.
 //!
 //! Begin with `specs/main_theorem/MainTheorem.antt`: the premises on a program and its parts, and
-//! what is said of them. `lowering`, `graph_rules`, `structuring` and `rendering` are the steps, in
-//! this order: hold their definitions against docs/RESTRUCTURING.md. Nothing here runs.
+//! what follows for them. `lowering`, `graph_rules`, `structuring` and `rendering` are the steps,
+//! in this order; their definitions are to be compared with docs/RESTRUCTURING.md. Nothing here
+//! runs.
 #![tactic(auto)]
 
 pub mod expressible_graphs;

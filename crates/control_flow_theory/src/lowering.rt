@@ -1,10 +1,11 @@
-//! Lowering takes a program's ranges to graphs of trees, and flow paths tell what it asks.
+//! Lowering takes a program's ranges to graphs of trees; what it needs to know is defined by flow
+//! paths.
 //!
-//! In `specs/lowering`, `Lower.antt` builds a tree from a rest, a line a statement;
-//! `Completes.antt` says what can complete and cuts what stands behind; `flow/Paths.antt` is the
-//! source step over ways in place of data. The law is `lowered_family_keeps_meaning`: of a program
-//! that isn't faulty, the walk of the reached nodes shows what the source shows, and isn't lost.
-//! Nothing here runs: the contracts are the laws.
+//! In `specs/lowering`, `Lower.antt` builds a tree from a rest, with a line for each statement;
+//! `Completes.antt` says what can complete and cuts what comes after the rest; `flow/Paths.antt` is
+//! the source step with ways in place of data. The law is `lowered_family_keeps_meaning`: of a
+//! program that isn't faulty, the walk of the reached nodes shows what the source shows, and isn't
+//! lost. Nothing here runs: the contracts are the laws.
 
 ghost use Rattle.control_flow_theory.specs.lowering.Laws.{LoweringKeepsMeaning, LoweredMainIsSound, LoweredRangeIsSound, NotFaultyHasNoFlowFault, LoweredFamilyKeepsMeaning, LoweredFamilyIsSound, NumberedFamilyKeepsMeaning, WhatCompletesIsPassed};
 ghost use Rattle.control_flow_theory.specs.lowering.Reached.{UnreachedMakesNoDifference, KeptNodesAreFound};
@@ -61,15 +62,15 @@ pub fn lowered_family_keeps_meaning<Memory, Left>()
     ensures numbered { NumberedFamilyKeepsMeaning Memory Left }
 {}
 
-/// In the nodes of a range no escape stands in a body, each Pick has its arms, each jump leads to a
-/// node, and labels rise; the same holds of those nodes that are reached.
+/// In the nodes of a range no body holds an escape, each Pick has its arms, each jump leads to a
+/// node, and labels are in ascending order; the same holds of those nodes that are reached.
 pub fn lowered_graphs_are_well_formed()
     ensures all { LoweredGraphsAreWellFormed }
     ensures reached { ReachedGraphsAreWellFormed }
 {}
 
-/// Of small programs: the tree of a label inside an arm runs on behind the arm, cutting comes
-/// first, EXIT PERFORM and EXIT SECTION go on behind their loop and their section, and a loop
+/// Examples of small programs: the tree of a label inside an arm runs on after the arm, cutting
+/// comes first, EXIT PERFORM and EXIT SECTION go on after their loop and their section, and a loop
 /// tested after completes where it is left.
 pub fn lowered_examples()
     ensures runs_on { LabelInsideAnArmRunsOn }

@@ -1,8 +1,8 @@
 //! From a source to its structured program: lowering, the rules and rendering composed.
 //!
-//! `the_headline_over_control` has premises on the parts and on the plan alone. The bridges are
-//! here: the graphs' family is the lowered one, what the closed graphs name and perform, and which
-//! plans there are. Nothing here runs: the contracts are the laws.
+//! `the_headline_over_control` has premises on the parts and on the plan alone. The links between
+//! the steps are here: the graphs' family is the lowered one, what the closed graphs name and
+//! perform, and which plans there are. Nothing here runs: the contracts are the laws.
 
 ghost use Rattle.control_flow_theory.specs.main_theorem.Chain.{TheHeadline, ClosedGraphsStand, ClosingLosesNoPerform, ClosedGraphsArePerformed, SomeResultBehaves};
 ghost use Rattle.control_flow_theory.specs.main_theorem.CallsReached.{WhatIsCalledStands, OrderByPathsIsOfGraphs, SomeResultByPaths};
@@ -20,8 +20,8 @@ pub fn the_headline_over_control<Memory, Other, Left, World, C: Carrying<Memory,
     ensures { TheHeadline C.carries Left World }
 {}
 
-/// Where what stands in the lowered graphs may be written, and what the rules write of each added
-/// cell, so may what closing leaves: each choice by a cell stands where the cell isn't zero.
+/// Where what is in the lowered graphs may be written, and what the rules write for each added
+/// cell, so may what closing leaves: each choice by a cell is where the cell isn't zero.
 pub fn closed_graphs_stand()
     ensures { ClosedGraphsStand }
 {}
@@ -33,7 +33,7 @@ pub fn closing_loses_no_perform()
     ensures order { ClosedGraphsArePerformed }
 {}
 
-/// So for any parts there is a structured result that behaves as the source.
+/// For any parts there is a structured result that behaves as the source.
 pub fn some_result_behaves<Memory, Left, World>()
     ensures { SomeResultBehaves Memory Left World }
 {}
@@ -46,8 +46,8 @@ pub fn what_is_called_stands()
     ensures order { OrderByPathsIsOfGraphs }
 {}
 
-/// So, where paths alone tell which ranges are performed, for any parts there is a structured
-/// result that behaves as the source.
+/// Where the performed ranges are given by paths alone, for any parts there is a structured result
+/// that behaves as the source.
 pub fn some_result_by_paths<Memory, Left, World>()
     ensures { SomeResultByPaths Memory Left World }
 {}
@@ -64,7 +64,7 @@ pub fn lowered_nodes_name_counters()
 {}
 
 /// A program that jumps to its own paragraph is a source, isn't faulty and has a plan; so for any
-/// parts that do what is told there is a structured result that behaves as it does.
+/// parts that do what lowering knows of them there is a structured result that behaves as it does.
 pub fn a_plan_can_be_made<Memory, Left, World>()
     ensures plan { APlanCanBeMade }
     ensures result { ThePlanIsFollowed Memory Left World }

@@ -1,9 +1,9 @@
 //! The procedures of a closed family are written as a program.
 //!
 //! `specs/rendering/Rendering.antt` writes a paragraph for each range, with items for its cells;
-//! `Serving.antt` beside it says when the written parts do what the parts and the words on cells
-//! do. The laws are `a_rendering_is_structured` and `rendering_keeps_meaning`. Nothing here runs:
-//! the contracts are the laws.
+//! `Serving.antt` in the same folder says when the written parts do what the parts and the words on
+//! cells do. The laws are `a_rendering_is_structured` and `rendering_keeps_meaning`. Nothing here
+//! runs: the contracts are the laws.
 
 ghost use Rattle.control_flow_theory.specs.semantics.Doing.{Celled};
 ghost use Rattle.control_flow_theory.specs.rendering.WholeExample.{TheJumpIsRestructured};
@@ -15,14 +15,14 @@ pub trait Carrying<Memory, Other> {
     ghost carries: { Celled Memory → Other → Type 0 };
 }
 
-/// A small family can be written, is written as said, and then is structured.
+/// A small family can be written, is written as shown, and is then structured.
 pub fn a_small_family_is_written_as_said()
     ensures writable { IsWritable }
     ensures written { IsWrittenAs }
     ensures structured { IsThenStructured }
 {}
 
-/// Whatever the parts do, there are parts of a result that do it, and the words on cells beside.
+/// Whatever the parts do, there are parts of a result that do it, and the words on cells as well.
 pub fn any_parts_can_be_served<Memory, Left, World>()
     ensures { AnyPartsCanBeServed Memory Left World }
 {}
@@ -39,7 +39,7 @@ pub fn followers_are_sound<Memory, Left>()
     ensures alike { SoundnessIsKept Memory Left }
 {}
 
-/// Families whose walks of main are tied in some worlds, the first memories among them, walk alike.
+/// Families whose walks of main are tied in some worlds, their first memories included, walk alike.
 pub fn main_walks_alike<Memory, Left, World>()
     ensures { MainWalksAlike Memory Left World }
 {}

@@ -2,7 +2,7 @@
 //!
 //! A program's meaning takes a world and a number of steps to a run: what was shown, and whether it
 //! is over, and how. Two meanings are tied where each shows all that the other shows, within a
-//! number of steps that grows evenly. The laws hold for all types of worlds, events, ends and
+//! number of steps that grows linearly. The laws hold for all types of worlds, events, ends and
 //! states. Nothing here runs: a call of these functions does nothing, and their contracts are the
 //! laws.
 

@@ -1,12 +1,12 @@
-//! A structured program has one meaning: what its nested statements do, the source machine does.
+//! A structured program has one meaning: the source machine does what its nested statements do.
 //!
-//! No jump stands in a structured program, and each paragraph but the first is performed from an
-//! earlier one. The law is `a_structured_program_agrees`: both meanings show the same, and no fault
-//! of flow is met. Nothing here runs: the contracts are the laws.
+//! A structured program holds no jump, and each of its paragraphs but the first is performed from
+//! an earlier one. The law is `a_structured_program_agrees`: both meanings show the same, and no
+//! fault of flow is met. Nothing here runs: the contracts are the laws.
 
 ghost use Rattle.control_flow_theory.specs.semantics_agree.Laws.{MoreUnitsShowMore, NestedEndFairly, StructuredAgrees, StructuredBehavesTheSame, StructuredMeetsNoFault, StructuredNeverFallsThrough};
 
-/// With more units nested statements show more; they go on or stop.
+/// With more units nested statements show at least as much; they go on or stop.
 pub fn more_units_show_more<Memory, Left>()
     ensures steady { MoreUnitsShowMore Memory Left }
     ensures fair { NestedEndFairly Memory Left }

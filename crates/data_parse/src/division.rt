@@ -1,4 +1,4 @@
-//! All that stands before the PROCEDURE DIVISION.
+//! All that comes before the PROCEDURE DIVISION.
 
 ghost use Rattle.parser_combinators.specs.Reading.{Reads};
 ghost use Rattle.cobol_grammar.specs.data_forms.Data as datas;
@@ -56,7 +56,7 @@ fn identification(cursor: &mut Cursor<'_>) -> Result<Word, Unread>
     Ok(name)
 }
 
-/// Takes all that stands before the PROCEDURE DIVISION.
+/// Takes all that comes before the PROCEDURE DIVISION.
 #[tactic(auto, unfolding(cobol_grammar::specs::data_forms::Divisions::divisions))]
 pub fn divisions<S: StatusReader>(
     alloc: Global,

@@ -1,7 +1,7 @@
 //! Reads data description entries (ISO 1989:1985) to drafts, and words that may be one or another.
 //!
-//! Each function mirrors the form of its name in `data_forms`, which is what to hold against the
-//! standard, and is exact by it: it reads what the form reads, and stops where the form stops.
+//! Each function mirrors the form of its name in `data_forms`, which is what is to be compared with
+//! the standard, and is exact by it: it reads what the form reads, and stops where the form stops.
 
 mod choice;
 mod clause;

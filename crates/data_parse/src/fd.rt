@@ -141,7 +141,7 @@ fn fd_clauses(alloc: Global, cursor: &mut Cursor<'_>) -> Result<(), Unread>
     Ok(())
 }
 
-/// One more entry.
+/// Reads one more entry.
 fn entry_behind(
     alloc: Global,
     cursor: &mut Cursor<'_>,
@@ -193,7 +193,7 @@ fn fd(alloc: Global, cursor: &mut Cursor<'_>) -> Result<FdDraft, Unread>
     Ok(FdDraft { name, at, entries })
 }
 
-/// One more FD.
+/// Reads one more FD.
 fn fd_behind(
     alloc: Global,
     cursor: &mut Cursor<'_>,

@@ -105,7 +105,7 @@ fn status_clause<S: StatusReader>(
     Ok(StatusDraft { at, place })
 }
 
-// SEQUENTIAL says nothing.
+// Takes an ORGANIZATION or ACCESS clause, which changes nothing, since both are SEQUENTIAL.
 #[tactic(auto, unfolding(cobol_grammar::specs::data_forms::Environment::storage_clause))]
 fn storage_clause(
     cursor: &mut Cursor<'_>,
@@ -248,7 +248,7 @@ fn configuration(cursor: &mut Cursor<'_>) -> Result<(), Unread>
     }
 }
 
-/// One more SELECT.
+/// Reads one more SELECT.
 fn select_behind<S: StatusReader>(
     alloc: Global,
     cursor: &mut Cursor<'_>,

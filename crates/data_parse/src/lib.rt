@@ -1,8 +1,8 @@
 //! Reads the IDENTIFICATION, ENVIRONMENT and DATA DIVISIONs (ISO 1989:1985) to drafts.
 //!
-//! Each function mirrors the form of its name in `data_forms`, which is what to hold against the
-//! standard, and is exact by it: it reads what the form reads, and stops where the form stops. How
-//! a status item is referred to is left to a `StatusReader`.
+//! Each function mirrors the form of its name in `data_forms`, which is what is to be compared with
+//! the standard, and is exact by it: it reads what the form reads, and stops where the form stops.
+//! How a status item is referred to is left to a `StatusReader`.
 #![tactic(auto)]
 
 mod division;

@@ -14,6 +14,7 @@ use std::alloc::Global;
 pub trait StatusReader {
     ghost form: { Self → Form PlaceOf };
 
+    /// Reads a reference to a status item.
     fn status(&self, alloc: Global, cursor: &mut Cursor<'_>) -> Result<Place, Unread>
         ensures { Reads ((form self.now).reads cursor.old) result cursor.new };
 

@@ -9,5 +9,6 @@ use Rattle.pending_returns.specs.Summary.{Rises}
 pub record AreDropped (never_first : Chooser → Bool) (program : Program) (numbers : List ℕ)
     : Type 0 where
   pub rises : Rises numbers
+  -- a paragraph is in the list just where it is there and no free flow path comes to it
   pub dropped : (paragraph : ℕ) → Holds numbers paragraph ↔ ((paragraph < length program.paragraphs)
       × (IsReached never_first program paragraph → ⊥))

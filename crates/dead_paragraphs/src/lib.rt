@@ -1,6 +1,6 @@
 //! The paragraphs of a program to which no flow path comes.
 //!
-//! `dead` gives them by the program's summary, of which `pending_returns` says what it tells;
+//! `dead` gives them by the program's summary, whose meaning is in `pending_returns`;
 //! `specs/Dead.antt` says which they are.
 #![tactic(auto)]
 
@@ -13,7 +13,7 @@ use cob_base::{Items, NoMemory};
 use pending_returns::{Summary, lists};
 use std::alloc::Global;
 
-/// The flags, each turned round.
+/// The flags, each negated.
 fn turned_round(alloc: Global, flags: &[bool]) -> Result<Vec<bool>, NoMemory>
     ensures { IfOk result (λ turned. turned.items ≡ map not flags.now) }
 {
@@ -21,7 +21,7 @@ fn turned_round(alloc: Global, flags: &[bool]) -> Result<Vec<bool>, NoMemory>
     Ok(turned)
 }
 
-/// The numbers of the paragraphs to which no flow path comes, rising.
+/// The numbers of the paragraphs to which no flow path comes, in ascending order.
 pub fn dead(alloc: Global, summary: &Summary) -> Result<Items<u32>, NoMemory>
     ensures { IfOk result (λ numbers. (never_first : Chooser → Bool) (program : Program) →
         IsSummary never_first program summary.now → AreDropped never_first program numbers) }

@@ -21,14 +21,17 @@ use Rattle.declaration_checks.specs.Standing.{behind}
 
 -- ---- the entries by their drafts alone, the records of files first
 
+-- the entries of these drafts, in the FD of a file or in none
 abbrev pub section_bases : Option ℕ → List EntryDraft → List Entry
 section_bases file drafts = map (base_of file) drafts
 
+-- the entries of these FDs, the first of which has this number
 abbrev pub record_bases : List SelectDraft → (at : ℕ) → List FdDraft → List Entry
 record_bases selects at [] = []
 record_bases selects at (fd ∷ fds) =
     section_bases (Some (file_number selects fd at)) fd.entries ++ record_bases selects (at + 1) fds
 
+-- the entries of a program by their drafts alone
 abbrev pub bases_of : Divisions → List Entry
 bases_of divisions =
     record_bases divisions.selects 0 divisions.data_part.fds
@@ -36,15 +39,17 @@ bases_of divisions =
 
 -- ---- the entries with what they redefine
 
--- a group has no picture
+-- the picture of an entry; a group has none
 abbrev pub picture_of : List Entry → ℕ → Entry → Option Picture
 picture_of bases at entry = if is_group entry (behind bases at) then None else entry.picture
 
+-- what an item redefines; a level 88 redefines nothing
 abbrev pub redefines_of : List Entry → ℕ → Entry → EntryDraft → Option ℕ
 redefines_of bases at entry draft =
     if entry.level == 88 then None
     else redefined_in bases at entry draft.clauses
 
+-- an entry with its picture and what it redefines
 abbrev pub settled : List Entry → ℕ → EntryDraft → Entry → Entry
 settled bases at draft entry = record {
   level = entry.level;
@@ -58,31 +63,37 @@ settled bases at draft entry = record {
   ranges = entry.ranges;
 }
 
--- the next entry behind those that are settled
+-- the entries with the next one settled after them
 abbrev pub settled_at : List Entry → List Entry → EntryDraft → Option Entry → List Entry
 settled_at bases entries draft None = entries
 settled_at bases entries draft (Some entry) =
     entries ++ settled bases (length entries) draft entry ∷ []
 
+-- the entry of this draft after those that are settled
 abbrev pub settle : List Entry → List Entry → EntryDraft → List Entry
 settle bases entries draft = settled_at bases entries draft (slice_get bases (length entries))
 
+-- the entries of these drafts after those that are settled
 abbrev pub settle_all : List Entry → List Entry → List EntryDraft → List Entry
 settle_all bases entries drafts = fold (settle bases) entries drafts
 
+-- the entries of an FD after those that are settled
 abbrev pub settle_records : List Entry → List Entry → FdDraft → List Entry
 settle_records bases entries fd = settle_all bases entries fd.entries
 
+-- the entries of a program, each with what it redefines
 abbrev pub settled_by : List Entry → Divisions → List Entry
 settled_by bases divisions =
     settle_all bases (fold (settle_records bases) [] divisions.data_part.fds)
     divisions.data_part.storage
 
+-- the entries that a program declares
 abbrev pub entries_of : Divisions → List Entry
 entries_of divisions = settled_by (bases_of divisions) divisions
 
 -- ---- their faults
 
+-- the entry with this draft is judged too, if it is there
 abbrev pub judged_at : List Entry → List ℕ → Judged → EntryDraft → Option Entry → Judged
 judged_at bases sizes judged draft None = judged
 judged_at bases sizes judged draft (Some entry) = record {
@@ -90,36 +101,42 @@ judged_at bases sizes judged draft (Some entry) = record {
   fault = earliest judged.fault (entry_fault bases sizes judged.at entry draft);
 }
 
--- the next entry is judged too
+-- the entries judged so far, and the next one
 abbrev pub judge : List Entry → List ℕ → Judged → EntryDraft → Judged
 judge bases sizes judged draft =
     judged_at bases sizes judged draft (slice_get bases judged.at)
 
+-- the entries of these drafts are judged too
 abbrev pub judge_all : List Entry → List ℕ → Judged → List EntryDraft → Judged
 judge_all bases sizes judged drafts = fold (judge bases sizes) judged drafts
 
+-- the entries of an FD are judged too
 abbrev pub judge_records : List Entry → List ℕ → Judged → FdDraft → Judged
 judge_records bases sizes judged fd = judge_all bases sizes judged fd.entries
 
+-- all entries of a program are judged
 abbrev pub judged_by : List Entry → List ℕ → Judged → Divisions → Judged
 judged_by bases sizes judged divisions =
     judge_all bases sizes (fold (judge_records bases sizes) judged divisions.data_part.fds)
     divisions.data_part.storage
 
+-- the first fault of a SELECT or an FD
 abbrev pub files_fault : Divisions → Option Note
 files_fault divisions =
     earliest (selects_fault divisions.data_part.fds divisions.selects)
     (fds_fault divisions.selects divisions.data_part.fds)
 
--- no entry is judged yet
+-- the judgement before the first entry
 abbrev pub start_of : Divisions → Judged
 start_of divisions = record { at = 0; fault = files_fault divisions }
 
+-- the first fault of the files and entries of a program
 abbrev pub fault_of : Divisions → Option Note
 fault_of divisions =
     (judged_by (bases_of divisions) (sized (entries_of divisions)).sizes (start_of divisions)
     divisions).fault
 
+-- what a program declares
 abbrev pub declared_of : Divisions → Declared
 declared_of divisions = record {
   files = map file_of divisions.selects;

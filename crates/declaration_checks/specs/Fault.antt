@@ -6,6 +6,7 @@ use Rattle.parser_combinators.specs.declared.note.Note.{Note}
 use Rattle.parser_combinators.specs.declared.note.Position.{Position}
 use Rattle.parser_combinators.specs.Note.{earliest}
 
+-- a fault of this kind, at this position
 abbrev pub fault_at : NameKind → Position → Option Note
 fault_at kind position = Some (record { kind = kind; position = position })
 

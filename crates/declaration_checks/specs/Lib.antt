@@ -4,7 +4,7 @@ pub mod Fault
 pub mod Clause
 -- What a draft says of its entry by itself.
 pub mod Base
--- Where an entry stands.
+-- Where an entry is.
 pub mod Standing
 -- Whether a literal fits an item.
 pub mod Literal

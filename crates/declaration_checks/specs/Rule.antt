@@ -24,9 +24,11 @@ target_by group sizes at entry = record {
   size = size_at (slice_get sizes at);
 }
 
+-- what a literal for the entry with this number is to fit
 abbrev pub target_of : List Entry → List ℕ → ℕ → Entry → LiteralTarget
 target_of bases sizes at entry = target_by (is_group entry (behind bases at)) sizes at entry
 
+-- the first value of a draft that doesn't fit this entry
 abbrev pub fits_at : List Entry → List ℕ → EntryDraft → ℕ → Option Entry → Option Note
 fits_at bases sizes draft item None = None
 fits_at bases sizes draft item (Some entry) =
@@ -46,7 +48,7 @@ condition_fault bases sizes draft item =
     ∷ missing_fault draft.at draft.clauses
     ∷ fits_fault bases sizes draft item ∷ [])
 
--- the clauses of an item or a group, where this stands above it
+-- the clauses of an item or a group, where this is above it
 abbrev pub clauses_fault : Entry → LiteralTarget → Standing → EntryDraft → Option Note
 clauses_fault entry target standing draft =
     first_of
@@ -56,7 +58,7 @@ clauses_fault entry target standing draft =
     ∷ occurs_fault entry.level standing.dims draft.clauses
     ∷ value_fault entry target standing.barred draft.clauses ∷ [])
 
--- an item or a group
+-- the first fault of an item or a group
 abbrev pub item_fault : List Entry → List ℕ → ℕ → Entry → EntryDraft → Option Note
 item_fault bases sizes at entry draft =
     first_of
@@ -64,19 +66,22 @@ item_fault bases sizes at entry draft =
     (standing_of entry (before bases at)) draft
     ∷ redefines_fault bases sizes at entry draft.clauses ∷ [])
 
+-- the first fault of an entry but for its level
 abbrev pub kind_fault : List Entry → List ℕ → ℕ → Entry → EntryDraft → Option ℕ → Option Note
 kind_fault bases sizes at entry draft holder =
     if entry.level == 88
     then condition_fault bases sizes draft holder
     else item_fault bases sizes at entry draft
 
--- LEVEL stands at an entry's first token, so no other fault of the entry counts before it
+-- the first fault of an entry; LEVEL is at its first token, so no other fault of the entry counts
+-- before it
 abbrev pub held_fault : List Entry → List ℕ → ℕ → Entry → EntryDraft → Option ℕ → Option Note
 held_fault bases sizes at entry draft holder =
     if level_stands entry.level holder
     then kind_fault bases sizes at entry draft holder
     else fault_at Level draft.at
 
+-- the first fault of an entry
 abbrev pub entry_fault : List Entry → List ℕ → ℕ → Entry → EntryDraft → Option Note
 entry_fault bases sizes at entry draft =
     held_fault bases sizes at entry draft (holder_of entry (before bases at))

@@ -6,12 +6,13 @@ use Rattle.symbol_tables.specs.data_names.Nesting.{nestings_of}
 use Rattle.declaration_checks.specs.declared.table.Tables.{Tables}
 use Rattle.declaration_checks.specs.Redefining.{last_alike}
 
--- for each entry the last before it that it could redefine, where this is such an entry itself
+-- the last entry before each entry that it could redefine, where this is such an entry itself
 unfoldable pub alikes_from : (before entries : List Entry) → List (Option ℕ)
 alikes_from before [] = []
 alikes_from before (entry ∷ behind) =
     last_alike entry before ∷ alikes_from (entry ∷ before) behind
 
+-- the last entry before each entry that it could redefine
 abbrev pub alikes_of : List Entry → List (Option ℕ)
 alikes_of entries = alikes_from [] entries
 
@@ -20,6 +21,7 @@ abbrev pub names_in : List Entry → List (List ℕ)
 names_in [] = []
 names_in (entry ∷ entries) = word_list entry.name ++ names_in entries
 
+-- the tables of these entries
 abbrev pub tables_of : List Entry → Tables
 tables_of entries = record {
   nestings = nestings_of entries;

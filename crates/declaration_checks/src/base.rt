@@ -1,4 +1,4 @@
-//! What a draft says of its entry by itself.
+//! What a draft alone says about its entry.
 
 ghost use Rattle.std.specs.Prelude.{◌≡◌, ◌<◌, map, Some};
 ghost use Rattle.cob_base.specs.Answers.{Makes};
@@ -11,7 +11,7 @@ use cobol_grammar::data_forms::{Clause, EntryDraft, SpanDraft, ThruDraft};
 use picture_data::read_picture;
 use std::alloc::Global;
 
-/// The number that digits spell, or the last of 32 bits where it is past that.
+/// The number that digits spell, at most the largest `u32`.
 pub fn number_of(digits: &[u8]) -> u32
     ensures { result ≡ bases.number_of digits.now }
 {
@@ -30,7 +30,7 @@ fn with_digit(number: u32, digit: u8) -> u32
         .saturating_add(u32::from(digit.saturating_sub(b'0')))
 }
 
-/// The level number, or 0 where it is none.
+/// The level number, or 0 where it isn't valid.
 fn level_of(digits: &[u8]) -> u8
     ensures { result ≡ bases.level_of digits.now }
 {
@@ -59,7 +59,7 @@ fn picture_by(text: &[u8]) -> Option<Picture>
     }
 }
 
-/// The picture of the first PICTURE clause, where it is one.
+/// The picture of the first PICTURE clause, where its text is one.
 fn picture_of(clauses: &[Clause]) -> Option<Picture>
     ensures { result ≡ bases.picture_of clauses.now }
 {
@@ -103,7 +103,7 @@ pub fn is_count(number: u32) -> bool
     1 <= number && number <= 65535
 }
 
-/// A count of occurrences that may be, or 1 in place of one that may not.
+/// A valid count of occurrences, or 1 in place of one that isn't valid.
 fn count_of(digits: &[u8]) -> u32
     ensures { result ≡ bases.count_of digits.now }
 {
@@ -212,7 +212,7 @@ fn item(alloc: Global, draft: &EntryDraft, level: u8, file: Option<u32>) -> Resu
     })
 }
 
-/// The entry of a draft, where 0 stands for each item that is redefined.
+/// The entry of a draft, with 0 for an item that it redefines.
 pub fn base_of(alloc: Global, draft: &EntryDraft, file: Option<u32>) -> Result<Entry, NoMemory>
     ensures { Makes (bases.base_of file draft.now) result }
 {

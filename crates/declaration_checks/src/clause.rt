@@ -74,13 +74,14 @@ pub fn clause_of(kind: ClauseKind, clauses: &[Clause]) -> Option<&Clause>
     clauses.iter().find(|clause| is_of(kind, clause))
 }
 
+/// Whether there is a clause of this kind.
 pub fn has_clause(kind: ClauseKind, clauses: &[Clause]) -> bool
     ensures { result ≡ list_any (spec.is_of kind) clauses.now }
 {
     clauses.iter().any(|clause| is_of(kind, clause))
 }
 
-/// The fault of the first clause that stands twice, at its second.
+/// The fault of the first clause that is there twice, at its second occurrence.
 #[tactic(auto, using(crate::proofs::StepLemmas::again_from_step))]
 pub fn duplicate_fault(clauses: &[Clause]) -> Option<Note>
     ensures { result ≡ spec.duplicate_fault clauses.now }

@@ -65,7 +65,7 @@ fn record_bases(
     Ok(bases)
 }
 
-// Entries and files are numbered below 2^31.
+// The entries of these divisions; entries and files are numbered below 2^31.
 fn bases_of(
     alloc: Global,
     divisions: &Divisions,

@@ -6,7 +6,7 @@ ghost use Rattle.declaration_checks.specs.Fault as faults;
 
 use parser_combinators::{NameKind, Note, Position};
 
-/// Of two faults the one that counts.
+/// The one of two faults that counts.
 pub fn first_of(early: Option<Note>, late: Option<Note>) -> Option<Note>
     ensures { result ≡ earliest early late }
 {
@@ -25,6 +25,7 @@ pub fn first_of(early: Option<Note>, late: Option<Note>) -> Option<Note>
     }
 }
 
+/// A fault of this kind, at this position.
 pub fn fault_at(kind: NameKind, position: Position) -> Option<Note>
     ensures { result ≡ faults.fault_at kind position }
 {

@@ -97,6 +97,7 @@ fn file_of(alloc: Global, select: &SelectDraft) -> Result<FileEntry, NoMemory>
     })
 }
 
+/// The files of these SELECTs.
 pub fn files_of(alloc: Global, selects: &[SelectDraft]) -> Result<Items<FileEntry>, NoMemory>
     ensures { Makes (map files.file_of selects.now) result }
 {
@@ -107,7 +108,7 @@ pub fn files_of(alloc: Global, selects: &[SelectDraft]) -> Result<Items<FileEntr
     Ok(files)
 }
 
-/// The number of an FD's file; of one without SELECT a number that no file has.
+/// The number of an FD's file; for one without SELECT a number that no file has.
 pub fn file_number(selects: &[SelectDraft], names: &WordPlaces, fd: &FdDraft, at: usize) -> usize
     requires selects { length selects.now < 2 ^ 31 }
     requires names { names.now ≡ named.selected selects.now }

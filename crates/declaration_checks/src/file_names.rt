@@ -35,6 +35,7 @@ fn described(alloc: Global, fds: &[FdDraft]) -> Result<Items<Word>, NoMemory>
     Ok(words)
 }
 
+/// The names of files in these SELECTs and FDs.
 pub fn file_names(
     alloc: Global,
     selects: &[SelectDraft],

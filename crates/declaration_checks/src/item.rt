@@ -10,14 +10,14 @@ use cob_tree::Picture;
 use cobol_grammar::data_forms::Clause;
 use parser_combinators::{NameKind, Note, Position};
 
-/// Whether an entry of this level may stand where this item or group holds it, or none does.
+/// Whether an entry of this level may be in this item or group, or in none.
 pub fn level_stands(level: u8, holder: Option<usize>) -> bool
     ensures { result ≡ items.level_stands level holder }
 {
     level == 1 || level == 77 || (level != 0 && holder.is_some())
 }
 
-/// The fault of an entry's picture. `at` is where the entry stands.
+/// The fault of an entry's picture. `at` is the position of the entry.
 pub fn picture_fault(
     picture: Option<Picture>,
     group: bool,

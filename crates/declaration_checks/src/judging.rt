@@ -94,7 +94,7 @@ fn files_fault(divisions: &Divisions, names: &FileNames) -> Option<Note>
     first_of(selects_fault(names, selects), fds_fault(names, fds))
 }
 
-/// The first fault of the files and entries, which are named so and whose bytes lie so.
+/// The first fault of the files and entries, which have these names and sizes.
 pub fn fault_by(
     bases: &[Entry],
     sizes: &[u32],

@@ -6,11 +6,11 @@ ghost use Rattle.declaration_checks.specs.Literal as literals;
 
 use cob_tree::{Figure, Number, Operand, Picture};
 
-/// What a literal is to fit: a group, or an item with this picture, and its bytes.
+/// What a literal has to fit: a group, or an item with this picture, and its bytes.
 #[derive(Clone, Copy, Debug)]
 pub struct LiteralTarget {
     pub group: bool,
-    /// None where it has none, or a text that is no picture.
+    /// None where it has none, or a text that isn't a picture.
     pub picture: Option<Picture>,
     pub size: u32,
 }
@@ -33,7 +33,7 @@ fn first_more(digits: &[u8]) -> Option<usize>
     digits.iter().position(|digit| is_more(*digit))
 }
 
-/// The number of digits from the first on that isn't zero.
+/// How many digits there are from the first one that isn't zero on.
 fn leading_digits(digits: &[u8]) -> usize
     ensures { result ≡ literals.leading_digits digits.now }
 {
@@ -49,7 +49,7 @@ fn all_zeros(digits: &[u8]) -> bool
     digits.iter().all(|digit| is_zero(*digit))
 }
 
-// Whether all digits are zeros but the first so many.
+// Whether all digits after the first `count` are zeros.
 fn zeros_behind(digits: &[u8], count: usize) -> bool
     ensures { result ≡ list_all literals.is_zero (drop count digits.now) }
 {
@@ -68,7 +68,7 @@ fn whole_digits(number: &Number) -> &[u8]
     &digits[..digits.len().saturating_sub(usize::from(number.scale))]
 }
 
-/// The digits behind the decimal point.
+/// The digits after the decimal point.
 fn part_digits(number: &Number) -> &[u8]
     ensures { result.now ≡ literals.part_digits number.now }
 {
@@ -76,7 +76,7 @@ fn part_digits(number: &Number) -> &[u8]
     &digits[digits.len().saturating_sub(usize::from(number.scale))..]
 }
 
-/// Whether the number is of those that the picture can hold, by its value.
+/// Whether a picture of this form can hold the number's value.
 fn number_fits(number: &Number, signed: bool, whole: u8, part: u8) -> bool
     ensures { result ≡ literals.number_fits number.now signed whole part }
 {

@@ -49,7 +49,7 @@ fn if_meant(name: &Word, entry: &Entry, number: usize, bases: &[Entry]) -> Optio
     }
 }
 
-/// The entry that is redefined, where it may be.
+/// The entry that is redefined, where it may be redefined.
 fn redefined(
     bases: &[Entry],
     alikes: &[Option<usize>],

@@ -20,7 +20,7 @@ use cobol_grammar::data_forms::EntryDraft;
 use parser_combinators::{NameKind, Note};
 use symbol_tables::data_names::{Nesting, nesting_at};
 
-/// What a literal for this entry is to fit.
+/// What a literal for this entry has to fit.
 fn target_by(group: bool, sizes: &[u32], at: usize, entry: &Entry) -> LiteralTarget
     ensures { result ≡ rules.target_by group sizes.now at entry.now }
 {

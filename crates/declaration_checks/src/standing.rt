@@ -1,4 +1,4 @@
-//! Where an entry stands among those of its program.
+//! What is above an entry, among those of its program.
 
 ghost use Rattle.std.specs.Prelude.{◌≡◌, ◌<◌, ◌≤◌, ◌^◌, ◌||◌, length};
 ghost use Rattle.symbol_tables.specs.data_names.Nesting.{count_to, groups_from, nestings_of};
@@ -7,7 +7,7 @@ ghost use Rattle.declaration_checks.specs.Standing as standings;
 use cob_tree::Entry;
 use symbol_tables::data_names::{Nesting, nesting_at, repeats};
 
-/// What stands above an entry.
+/// What is above an entry.
 #[derive(Clone, Copy, Debug)]
 pub struct Standing {
     /// How many groups above it repeat.
@@ -16,7 +16,7 @@ pub struct Standing {
     pub barred: bool,
 }
 
-/// The entries behind one.
+/// The entries after one.
 pub fn behind(entries: &[Entry], at: usize) -> &[Entry]
     ensures { result.now ≡ standings.behind entries.now at }
 {
@@ -39,7 +39,7 @@ fn barred_too(barred: bool, group: &Entry) -> bool
     barred || bars_value(group)
 }
 
-/// What stands above an entry that stands in this one.
+/// What is above an entry that is in this one.
 pub fn standing_of(entries: &[Entry], nestings: &[Nesting], holder: Option<usize>) -> Standing
     requires short { length entries.now < 2 ^ 31 }
     requires table { nestings.now ≡ nestings_of entries.now }

@@ -1,4 +1,4 @@
-//! What entries are judged by, in tables that are made once.
+//! The tables, made once, by which entries are judged.
 
 ghost use Rattle.std.specs.Prelude.{◌≡◌, ◌==◌, ◌++◌, ◌<◌, ◌≤◌, Some, length, reverse, slice_get, take, OnOk, if◌then◌else◌};
 ghost use Rattle.std.specs.Option.{is_some};
@@ -13,11 +13,11 @@ use cob_words::first_places::WordPlaces;
 use std::alloc::Global;
 use symbol_tables::data_names::{Nesting, bound_of, holds, nestings_of, same_file};
 
-/// What is asked of the entries of a program again and again.
+/// What is often looked up for the entries of a program.
 #[derive(Drop)]
 pub struct Tables {
     pub nestings: Items<Nesting>,
-    /// For each entry the last before it that has its level and group and redefines nothing.
+    /// For each entry the last one before it with the same level and group that redefines nothing.
     pub alikes: Items<Option<usize>>,
     pub names: WordPlaces,
 }
@@ -36,7 +36,7 @@ fn is_level_of(entry: &Entry, other: &Entry) -> bool
     other.level == entry.level
 }
 
-// An entry that redefines is led back to what the table has for it.
+// What an entry leads to: itself, or what the table has for it where it redefines.
 fn alike_of(other: &Entry, number: usize, alike: Option<usize>) -> Option<usize>
     ensures { result ≡ (if is_some other.now.redefines then alike else Some number) }
 {

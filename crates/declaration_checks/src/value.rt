@@ -10,7 +10,7 @@ use cob_tree::Entry;
 use cobol_grammar::data_forms::{Clause, SpanDraft, ThruDraft};
 use parser_combinators::{NameKind, Note, Position};
 
-/// The fault of a level 88 without values, which stands at its first token.
+/// The fault of a level 88 without values, at its first token.
 pub fn missing_fault(at: Position, clauses: &[Clause]) -> Option<Note>
     ensures { result ≡ values.missing_fault at clauses.now }
 {
@@ -90,7 +90,7 @@ fn literals_fault(target: LiteralTarget, spans: &[SpanDraft]) -> Option<Note>
     }
 }
 
-/// The fault of an item's VALUE clause, where a group above it bars one or none does.
+/// The fault of an item's VALUE clause; `barred` says that a group above it bars one.
 pub fn value_fault(
     entry: &Entry,
     target: LiteralTarget,

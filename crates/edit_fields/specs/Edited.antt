@@ -11,9 +11,9 @@ use Rattle.edit_fields.specs.Symbol.{is_currency_or_sign, is_sign, is_suppressor
 use Rattle.edit_fields.specs.Shape.{digits, empty}
 use Rattle.edit_fields.specs.Field.{digit_of, field_of, moved, shape_of}
 
--- ---- where the digits stand
+-- ---- where the digits are
 
--- within the suppression string, behind its first symbol where that floats
+-- within the suppression string, after its first symbol where that floats
 abbrev pub is_string : Stage → Bool
 is_string stages.InString = true
 is_string _ = false
@@ -24,17 +24,17 @@ has_digit symbol behind =
     symbol == symbol_9 || is_suppressor symbol
     || (is_currency_or_sign symbol && is_string behind.stage)
 
--- the digit of a symbol, behind which the mask is this
+-- the digit of a symbol, after which the mask is this
 abbrev pub digit_at : Field → Shape → ℕ
 digit_at field behind = digit_of (field.digits - digits behind) field.number
 
 -- ---- from the left
 
--- nothing stands left of the first symbol
+-- there is nothing to the left of the first symbol
 abbrev pub at_start : Pen
 at_start = record { shape = empty; begun = false; shown = false }
 
--- the first shown place: a digit that isn't zero, a 9, the period, or the place behind V
+-- the first shown place: a digit that isn't zero, a 9, the period, or the place after V
 abbrev pub is_shown : Field → ℕ → Shape → Bool
 is_shown field symbol behind =
     symbol == symbol_9 || symbol == symbol_period || symbol == symbol_v
@@ -48,7 +48,7 @@ passed_to field symbol pen behind = record {
   shown = pen.shown || is_shown field symbol behind;
 }
 
--- behind one symbol more
+-- after one symbol more
 abbrev pub passed : Field → ℕ → Pen → Pen
 passed field symbol pen = passed_to field symbol pen (moved symbol pen.shape)
 
@@ -59,7 +59,7 @@ shows_next field pen (Some byte) = (passed field (to_ascii_uppercase byte) pen).
 
 -- ---- the byte of a symbol
 
--- where nothing is shown there are spaces; or asterisks, in which the period stands
+-- where nothing is shown there are spaces; or asterisks, with the period among them
 abbrev pub blank_byte : Field → ℕ → ℕ
 blank_byte field symbol =
     if not (field.string == symbol_star) then space else
@@ -75,13 +75,13 @@ abbrev pub float_byte : Field → ℕ
 float_byte field =
     if field.string == symbol_dollar then symbol_dollar else sign_byte field.minus field.string
 
--- in the string, left of the first shown place: what floats stands directly left of that place
+-- in the string, left of the first shown place: what floats is directly left of that place
 abbrev pub hidden_byte : Field → Bool → ℕ
 hidden_byte field next =
     if is_currency_or_sign field.string && next then float_byte field else
     if field.string == symbol_star then symbol_star else space
 
--- the tail, whose letters stand where the number is negative
+-- the tail, whose letters are there where the number is negative
 abbrev pub is_tail : Stage → Bool
 is_tail (stages.Letter letter) = true
 is_tail stages.Ended = true

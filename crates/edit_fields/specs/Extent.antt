@@ -30,11 +30,11 @@ longer symbol extent =
       edits = extent.edits || is_edit symbol;
     }
 
--- at most 160 bytes written out, and 50 as it is printed, so that it stands on one line
+-- at most 160 bytes written out, and 50 as it is printed, so that it is on one line
 abbrev pub is_short : Extent → Bool
 is_short extent =
     nat_le extent.size 160 && nat_le (tally extent.printed (run_size extent.run)) 50
 
--- a period or a comma behind a picture ends a sentence or a clause
+-- a period or a comma after a picture ends a sentence or a clause
 abbrev pub ends_well : Extent → Bool
 ends_well extent = not (extent.last == symbol_period || extent.last == symbol_comma)

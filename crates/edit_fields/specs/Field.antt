@@ -13,6 +13,7 @@ use Rattle.edit_fields.specs.Reading.{is_written_out, mask_fault_of}
 -- the text is a mask, and has no counts
 pub record IsMask (mask : List ℕ) : Type 0 where
   pub no_fault : mask_fault_of mask ≡ None
+  -- it has no counts
   pub written_out : IsTrue (is_written_out mask)
 
 -- the symbols so far with one more; where it may not come, they stay

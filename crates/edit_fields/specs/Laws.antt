@@ -15,7 +15,7 @@ use Rattle.edit_fields.specs.Edited.{edited, has_digit, shown_size}
 abbrev pub SymbolsHaveBytes : Type 0
 SymbolsHaveBytes = (mask : List ℕ) (value : Dec) → length (edited mask value) ≡ shown_size mask
 
--- ---- what stands in a field is read back
+-- ---- what is in a field is read back
 
 -- the digit that a byte is; what stands for a suppressed zero is zero
 abbrev pub digit_in : ℕ → ℕ
@@ -64,9 +64,9 @@ NegativesAreMarked =
     (mask : List ℕ) (value : Dec) → IsMask mask → (shape_of mask).sign ≡ true →
     is_negative (cut value (shape_of mask)) ≡ true → list_any is_mark (edited mask value) ≡ true
 
--- ---- where a fault of order stands
+-- ---- where a fault of order is
 
--- the symbols, each behind those before it
+-- the symbols, each after those before it
 unfoldable pub symbols_from : Shape → List ℕ → Option Shape
 symbols_from shape [] = Some shape
 symbols_from shape (symbol ∷ rest) =
@@ -100,7 +100,7 @@ run_text symbol run more =
     if run == 1 then symbol ∷ more
     else symbol ∷ left_parenthesis ∷ count_text run (right_parenthesis ∷ more)
 
--- the rest, behind a run of a symbol
+-- the rest, after a run of a symbol
 unfoldable pub printed_from : ℕ → ℕ → List ℕ → List ℕ
 printed_from symbol run [] = run_text symbol run []
 printed_from symbol run (byte ∷ rest) =

@@ -54,7 +54,7 @@ added_by symbol None reading = None
 added_by symbol (Some shape) reading =
     Some (record reading { shape = shape; extent = longer symbol reading.extent })
 
--- the symbol behind what was read
+-- the symbol after what was read
 abbrev pub added : ℕ → Reading → Option Reading
 added symbol reading = added_by symbol (behind symbol reading.shape) reading
 
@@ -68,7 +68,7 @@ repeated_on (suc n) symbol (Some reading) = repeated_on n symbol (added symbol r
 abbrev pub repeated : ℕ → ℕ → Reading → Option Reading
 repeated count symbol reading = repeated_on count symbol (Some reading)
 
--- what was read and where the next byte stands, or this fault
+-- what was read and where the next byte is, or this fault
 abbrev pub placed : MaskFault → Place → Option Reading → Result Reading MaskFault
 placed fault place None = Err fault
 placed fault place (Some reading) = Ok (record reading { place = place })
@@ -86,7 +86,7 @@ closed position at count reading =
     if count == 0 then Err (faults.Order position) else
     placed (faults.Order at) places.Open (repeated (count - 1) reading.extent.last reading)
 
--- a count with one digit more; it stands still at 200, where a mask is too long
+-- a count with one digit more; it stops at 200, where a mask is too long
 abbrev pub counted : ℕ → ℕ → ℕ
 counted count digit = min (count * 10 + digit) 200
 
@@ -98,7 +98,7 @@ in_count position at count byte reading =
     if byte == right_parenthesis then closed position at count reading
     else Err (fault_of position byte)
 
--- a byte behind what was read, by where it stands
+-- a byte after what was read, by where it is
 abbrev pub step_by : Place → ℕ → ℕ → Reading → Result Reading MaskFault
 step_by places.Open position byte reading = symbol position byte reading
 step_by (places.Behind at) position byte reading =
@@ -106,7 +106,7 @@ step_by (places.Behind at) position byte reading =
     else symbol position byte reading
 step_by (places.Count at count) position byte reading = in_count position at count byte reading
 
--- behind one byte more, its letter in capitals
+-- after one byte more, its letter in capitals
 unfoldable pub step : ℕ → ℕ → Reading → Result Reading MaskFault
 step position byte reading = step_by reading.place position byte reading
 
@@ -131,7 +131,7 @@ abbrev pub last_position : ℕ → ℕ
 last_position zero = 1
 last_position (suc n) = suc n
 
--- reads on behind so many bytes
+-- reads on after so many bytes
 unfoldable pub fault_from : ℕ → Result Reading MaskFault → List ℕ → Option MaskFault
 fault_from count (Err fault) rest = Some fault
 fault_from count (Ok reading) [] = end_fault (last_position count) reading
@@ -148,7 +148,7 @@ mask_fault_of text = fault_from 0 (Ok start) text
 abbrev pub is_written_out : List ℕ → Bool
 is_written_out text = list_all (λ byte. not (is_parenthesis byte)) text
 
--- the symbols of the rest, behind this one: outside a count, or in one that is this so far
+-- the symbols of the rest, after this one: outside a count, or in one that is this so far
 unfoldable pub written_from : Option ℕ → ℕ → List ℕ → List ℕ
 written_from count last [] = []
 written_from None last (byte ∷ rest) =

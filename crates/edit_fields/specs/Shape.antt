@@ -2,7 +2,7 @@
 --
 -- A mask is a lead, a body and a tail, the first and the last as it likes. The lead is a sign, then
 -- `$`. The body is a suppression string, then nines: the string is of Z, of `*`, or of two or more
--- of one sign or of `$`, which floats. Insertions may stand anywhere in the body, and one point.
+-- of one sign or of `$`, which floats. Insertions may be anywhere in the body, and one point.
 -- The tail is a sign, CR or DB.
 use Rattle.std.specs.Prelude.{ℕ, ◌+◌, min, Bool, true, false, not, ◌==◌, ◌&&◌, Option, Some, None, if◌then◌else◌}
 use Rattle.edit_fields.specs.declared.shape.Stage.{Stage}
@@ -10,7 +10,7 @@ use Rattle.edit_fields.specs.declared.shape.Stage.TheVariants as stages
 use Rattle.edit_fields.specs.declared.shape.Shape.{Shape}
 use Rattle.edit_fields.specs.Symbol.{is_insertion, is_point, is_sign, is_suppressor, is_tail_letter, symbol_9, symbol_b, symbol_c, symbol_d, symbol_dollar, symbol_r}
 
--- a sum of counts that stands still at 255, past each limit
+-- a sum of counts that stops at 255, past each limit
 abbrev pub tally : ℕ → ℕ → ℕ
 tally count more = min (count + more) 255
 
@@ -61,7 +61,7 @@ again first symbol shape = if first == symbol then Some (in_string symbol shape)
 
 -- ---- a sign
 
--- behind a lead it begins a string where the lead is `$`
+-- after a lead it begins a string where the lead is `$`
 abbrev pub sign_behind_lead : ℕ → ℕ → Shape → Option Shape
 sign_behind_lead lead sign shape =
     if lead == sign then Some (in_string sign shape) else
@@ -100,7 +100,7 @@ dollar_by stages.Ended shape = None
 
 -- ---- Z and `*`
 
--- Z and `*` stand before the first 9, all of one kind
+-- Z and `*` come before the first 9, all of one kind
 abbrev pub suppressor_by : Stage → ℕ → Shape → Option Shape
 suppressor_by stages.Start symbol shape = Some (in_string symbol shape)
 suppressor_by (stages.Lead lead) symbol shape = Some (in_string symbol shape)
@@ -114,7 +114,7 @@ suppressor_by stages.Ended symbol shape = None
 
 -- ---- the 9
 
--- none stands behind a string that goes on right of the point
+-- none follows a string that goes on right of the point
 abbrev pub nine_by : Stage → Shape → Option Shape
 nine_by stages.Start shape = Some (in_nines shape)
 nine_by (stages.Lead lead) shape = Some (in_nines shape)
@@ -140,7 +140,7 @@ body_by stages.Nines shape = Some shape
 body_by (stages.Letter letter) shape = None
 body_by stages.Ended shape = None
 
--- an insertion stands anywhere before the tail; behind the D of DB stands its B
+-- an insertion may be anywhere before the tail; after the D of DB comes its B
 abbrev pub insertion_by : Stage → ℕ → Shape → Option Shape
 insertion_by (stages.Letter letter) symbol shape =
     if letter == symbol_d && symbol == symbol_b
@@ -153,13 +153,13 @@ point_by stage shape = if shape.point then None else body_by stage (record shape
 
 -- ---- CR and DB
 
--- the tail begins behind a digit
+-- the tail begins after a digit
 abbrev pub letter_by : Stage → ℕ → Shape → Option Shape
 letter_by stages.InString letter shape = signed (stages.Letter letter) shape
 letter_by stages.Nines letter shape = signed (stages.Letter letter) shape
 letter_by _ letter shape = None
 
--- behind the C of CR stands its R
+-- after the C of CR comes its R
 abbrev pub last_letter_by : Stage → Shape → Option Shape
 last_letter_by (stages.Letter letter) shape =
     if letter == symbol_c then Some (record shape { stage = stages.Ended }) else None

@@ -73,7 +73,7 @@ space = 32
 abbrev pub is_sign : ℕ → Bool
 is_sign symbol = symbol == symbol_plus || symbol == symbol_minus
 
--- a sign or `$`, which floats where it stands twice
+-- a sign or `$`, which floats where it comes twice
 abbrev pub is_currency_or_sign : ℕ → Bool
 is_currency_or_sign symbol = is_sign symbol || symbol == symbol_dollar
 

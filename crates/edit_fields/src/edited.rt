@@ -10,13 +10,13 @@ use crate::shape::{Shape, Stage};
 use crate::symbol::{is_currency_or_sign, is_sign, is_suppressor};
 use cob_num::Dec;
 
-/// What stands left of a place.
+/// What is known of the places to the left of one.
 #[derive(Clone, Copy)]
 pub struct Pen {
     pub shape: Shape,
-    /// The suppression string has begun.
+    /// Whether the suppression string has begun.
     pub begun: bool,
-    /// The first shown place was reached.
+    /// Whether the first shown place was reached.
     pub shown: bool,
 }
 
@@ -47,7 +47,7 @@ fn has_digit(symbol: u8, behind: Shape) -> bool
         || (is_currency_or_sign(symbol) && is_string(behind.stage))
 }
 
-// A sign - is shown where the number is negative, a sign + turns into it there.
+// The byte of a sign: - is shown where the number is negative, and + becomes - there.
 fn sign_byte(minus: bool, sign: u8) -> u8
     ensures { result ≡ edits.sign_byte minus sign }
 {
@@ -71,7 +71,7 @@ impl Pen {
         }
     }
 
-    // Behind one symbol more.
+    // The pen after one more symbol.
     fn passed(self, field: Field, symbol: u8) -> Pen
         ensures { result ≡ edits.passed field symbol self }
     {
@@ -102,7 +102,7 @@ impl Field {
         digit_of(self.number, self.digits.saturating_sub(behind.digits()))
     }
 
-    // The first shown place: a digit that isn't zero, a 9, the period, or the place behind V.
+    // The first shown place: a digit that isn't zero, a 9, the period, or the place after V.
     fn is_shown(self, symbol: u8, behind: Shape) -> bool
         ensures { result ≡ edits.is_shown self symbol behind }
     {
@@ -112,7 +112,8 @@ impl Field {
             || (has_digit(symbol, behind) && self.digit_at(behind) != 0)
     }
 
-    // Where nothing is shown there are spaces; or asterisks, in which the period stands.
+    // The byte of a field of which nothing is shown: a space, or an asterisk, except for the
+    // period.
     fn blank_byte(self, symbol: u8) -> u8
         ensures { result ≡ edits.blank_byte self symbol }
     {
@@ -135,7 +136,7 @@ impl Field {
         }
     }
 
-    // In the string, left of the first shown place, which may be the next.
+    // The byte in the string, left of the first shown place, which may be the next.
     fn hidden_byte(self, next: bool) -> u8
         ensures { result ≡ edits.hidden_byte self next }
     {
@@ -222,8 +223,8 @@ fn write(field: Field, mask: &[u8], into: &mut [u8])
     }
 }
 
-/// The bytes that a value shows through a mask whose counts are written out, which has as many
-/// bytes as `into`, V aside.
+/// The bytes that a value shows through a mask whose counts are written out; `into` has one byte
+/// for each symbol of the mask, except V.
 pub fn edit(mask: &[u8], value: Dec, into: &mut [u8])
     requires mask { IsMask mask.now }
     requires size { length into.old ≡ shown_size mask.now }

@@ -10,16 +10,16 @@ use crate::shape::tally;
 pub struct Extent {
     /// How many bytes, with counts written out.
     pub size: u8,
-    /// In how many bytes the runs before the last are printed.
+    /// In how many bytes the runs before the last one are printed.
     pub printed: u8,
-    /// The last symbol, and how often it stands at the end.
+    /// The last symbol, and how often it is repeated at the end.
     pub last: u8,
     pub run: u8,
-    /// There is another symbol than 9 and V.
+    /// Whether there is a symbol other than 9 and V.
     pub edits: bool,
 }
 
-// The bytes that a run of one symbol is printed in.
+// In how many bytes a run of one symbol is printed.
 fn run_size(run: u8) -> u8
     ensures { result ≡ extents.run_size run }
 {
@@ -41,6 +41,7 @@ fn is_edit(symbol: u8) -> bool
 }
 
 impl Extent {
+    /// The extent of no symbols.
     pub fn none() -> Extent
         ensures { result ≡ extents.no_extent }
     {
@@ -53,7 +54,7 @@ impl Extent {
         }
     }
 
-    /// One symbol more.
+    /// The extent with one more symbol.
     pub fn longer(self, symbol: u8) -> Extent
         ensures { result ≡ extents.longer symbol self }
     {

@@ -1,11 +1,11 @@
-//! Why a text is no mask.
+//! Why a text isn't a mask.
 
-/// Why a text is no mask, with the byte that decides it, from 1.
+/// Why a text isn't a mask, with the byte that decides it, from 1.
 #[derive(Clone, Copy, Debug, PartialEq, Eq)]
 pub enum MaskFault {
-    /// No symbol of a mask.
+    /// A byte that isn't a symbol of a mask.
     Symbol(u32),
-    /// No mask goes on so, or it ends too early.
+    /// A symbol that can't come here in a mask, or an end that comes too early.
     Order(u32),
     /// More than 18 digits.
     TooManyDigits(u32),

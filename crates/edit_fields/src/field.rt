@@ -7,7 +7,7 @@ ghost use Rattle.edit_fields.specs.Field.{IsMask, IsNumber};
 use crate::shape::Shape;
 use cob_num::{Dec, store};
 
-/// How many digits a mask has left of the point, and right of it.
+/// How many digits a mask has to the left of the point, and to the right of it.
 #[derive(Clone, Copy, Debug, PartialEq, Eq)]
 pub struct Digits {
     pub whole: u8,
@@ -22,11 +22,11 @@ pub struct Field {
     pub digits: u16,
     pub number: u64,
     pub minus: bool,
-    /// Nothing is shown of it.
+    /// Whether nothing is shown of it.
     pub blank: bool,
 }
 
-// Where a symbol may not come, those before it stay.
+// The shape with one more symbol; unchanged where the symbol may not come.
 pub fn moved(shape: Shape, symbol: u8) -> Shape
     ensures { result ≡ fields.moved symbol shape }
 {
@@ -36,7 +36,7 @@ pub fn moved(shape: Shape, symbol: u8) -> Shape
     }
 }
 
-/// All symbols of a mask whose counts are written out.
+/// The shape of all symbols of a mask whose counts are written out.
 pub fn shape_of(mask: &[u8]) -> Shape
     ensures shape { result ≡ fields.shape_of mask.now }
     ensures number { IsMask mask.now → IsNumber result.whole result.part }
@@ -60,7 +60,7 @@ pub fn mask_digits(mask: &[u8]) -> Digits
     }
 }
 
-// The number behind a value that is cut.
+// The number that remains of a value that is cut.
 fn cut(value: Dec, shape: Shape) -> i128
     requires { IsNumber shape.whole shape.part }
     ensures value { result ≡ fields.cut value shape }
@@ -69,6 +69,7 @@ fn cut(value: Dec, shape: Shape) -> i128
     store(value, shape.whole + shape.part, shape.part, false).value
 }
 
+/// A value, cut to the digits of a mask of this shape.
 pub fn field_of(value: Dec, shape: Shape) -> Field
     requires { IsNumber shape.whole shape.part }
     ensures { result ≡ fields.field_of value shape }

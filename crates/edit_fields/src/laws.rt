@@ -17,13 +17,13 @@ pub fn only_negatives_are_marked()
     ensures { OnlyNegativesAreMarked }
 {}
 
-/// What is negative once it is cut shows one, where the mask has a sign.
+/// What is negative once it is cut shows a minus, CR or DB, where the mask has a sign.
 pub fn negatives_are_marked()
     ensures { NegativesAreMarked }
 {}
 
-/// Symbols that may follow each other go on to those of a mask, so a fault of order stands at the
-/// first byte up to which no mask begins.
+/// Symbols that may follow each other can be continued to those of a mask, so a fault of order is
+/// at the first byte up to which no mask begins.
 pub fn beginnings_go_on()
     ensures { BeginningsGoOn }
 {}

@@ -1,14 +1,14 @@
 //! Edited pictures: masks, and what a number shows through one.
 //!
 //! `mask_fault` judges the text of a mask, `mask_digits` and `mask_size` say how many digits and
-//! bytes it has, and `edit` writes what a number shows. Hold `specs/Shape`, which symbol may follow
-//! which, and `specs/Edited`, one case a rule, against ISO 1989:1985, PICTURE clause;
-//! docs/DECISIONS.md has what is narrower here. Laws say that they are right: what was shown is
-//! read back (`numbers_are_read_back`), a sign is shown where the number is negative, and there
-//! alone (`negatives_are_marked`, `only_negatives_are_marked`), a fault of order stands at the
-//! first byte up to which no mask begins (`beginnings_go_on`), and masks with counts stand for
-//! those without, as they are printed too (`masks_are_written_out`, `printed_masks_are_read`).
-//! Rows that were worked by hand are tests.
+//! bytes it has, and `edit` writes what a number shows. `specs/Shape`, on which symbol may follow
+//! which, and `specs/Edited`, with one case for each rule, are to be compared with ISO 1989:1985,
+//! PICTURE clause; docs/DECISIONS.md has what is narrower here. These laws support them: what was
+//! shown is read back (`numbers_are_read_back`), a sign is shown where the number is negative, and
+//! only there (`negatives_are_marked`, `only_negatives_are_marked`), a fault of order is at the
+//! first byte up to which no mask begins (`beginnings_go_on`), and masks with counts mean those
+//! without, also as they are printed (`masks_are_written_out`, `printed_masks_are_read`). Examples
+//! that were worked by hand are tests.
 #![tactic(auto)]
 
 mod edited;
@@ -33,7 +33,7 @@ pub use field::{Digits, Field, mask_digits};
 pub use reading::{Place, Reading, is_written_out};
 pub use shape::{Shape, Stage};
 
-/// Why a text, its letters in either case, is no mask, or `None` where it is one.
+/// Why a text, its letters in either case, isn't a mask, or `None` where it is one.
 pub fn mask_fault(text: &[u8]) -> Option<MaskFault>
     requires { length text.now < 2 ^ 31 }
     ensures { result ≡ mask_fault_of text.now }

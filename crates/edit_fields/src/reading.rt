@@ -8,14 +8,14 @@ use crate::fault::MaskFault;
 use crate::shape::Shape;
 use crate::symbol::is_symbol;
 
-/// Where in a run of a symbol the text stands.
+/// How far the text has come in a run of a symbol.
 #[derive(Clone, Copy, Debug, PartialEq, Eq)]
 pub enum Place {
     /// Where no count may come.
     Open,
-    /// Behind a symbol at this byte, which may have a count.
+    /// After a symbol at this byte, which may have a count.
     Behind(u32),
-    /// In the count of that symbol, which is this so far.
+    /// In the count of that symbol, which has this value so far.
     Count(u32, u8),
 }
 
@@ -46,7 +46,7 @@ fn is_digit(byte: u8) -> bool
     byte >= b'0' && byte <= b'9'
 }
 
-// A byte that may not come in a count.
+// The fault of a byte that may not come in a count.
 fn fault_of(position: u32, byte: u8) -> MaskFault
     ensures { result ≡ readings.fault_of position byte }
 {
@@ -68,7 +68,7 @@ fn symbol_fault(position: u32, byte: u8) -> MaskFault
     }
 }
 
-// The count with one digit more; it stands still at 200, where a mask is too long.
+// The count with one more digit; it stays at 200, where a mask is too long.
 fn counted(count: u8, digit: u8) -> u8
     requires { digit ≤ 9 }
     ensures { result ≡ readings.counted count digit }
@@ -78,7 +78,7 @@ fn counted(count: u8, digit: u8) -> u8
 }
 
 impl Reading {
-    /// Before the first byte.
+    /// The reading before the first byte.
     pub fn start() -> Reading
         ensures { result ≡ readings.start }
     {
@@ -89,7 +89,7 @@ impl Reading {
         }
     }
 
-    /// Behind one byte more, its letter in capitals.
+    /// The reading after one more byte, a letter of which is taken in capitals.
     #[tactic(auto, unfolding(crate::specs::Reading::step))]
     pub fn step(self, position: u32, byte: u8) -> Result<Reading, MaskFault>
         ensures { result ≡ readings.step position byte self }
@@ -108,7 +108,7 @@ impl Reading {
         Reading { place, ..self }
     }
 
-    // The symbol once more, where it may come.
+    // The reading with the symbol once more, where it may come.
     fn added(self, symbol: u8) -> Option<Reading>
         ensures { result ≡ readings.added symbol self }
     {
@@ -120,7 +120,7 @@ impl Reading {
         })
     }
 
-    // The symbol so many times more.
+    // The reading with the symbol so many times more.
     fn repeated(self, count: u8, symbol: u8) -> Option<Reading>
         ensures { result ≡ readings.repeated count symbol self }
     {

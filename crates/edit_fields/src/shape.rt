@@ -5,18 +5,18 @@ ghost use Rattle.edit_fields.specs.Shape as shapes;
 
 use crate::symbol::{is_insertion, is_point, is_sign, is_suppressor, is_tail_letter};
 
-/// Where in a mask its symbols have come to.
+/// How far the symbols have come in a mask.
 #[derive(Clone, Copy, Debug, PartialEq, Eq)]
 pub enum Stage {
-    /// Nothing stands yet.
+    /// There is no symbol yet.
     Start,
     /// A lead that ends in this symbol, which floats where it comes again.
     Lead(u8),
-    /// Insertions or the point, behind no lead.
+    /// Insertions or the point, without a lead before them.
     Body,
-    /// The same behind a lead, whose last symbol still floats where it comes again.
+    /// The same after a lead, whose last symbol still floats where it comes again.
     Led(u8),
-    /// A sign or `$` that is no lead, so it has to come again.
+    /// A sign or `$` that isn't a lead, so it has to come again.
     Once(u8),
     /// The suppression string.
     InString,
@@ -34,16 +34,16 @@ pub struct Shape {
     pub stage: Stage,
     /// The symbol of the suppression string, or 0 where there is none.
     pub string: u8,
-    /// A sign stands in the lead, floats or is the tail.
+    /// Whether a sign is in the lead, floats or is the tail.
     pub sign: bool,
     pub point: bool,
     pub nines: bool,
-    /// The digits left of the point, and right of it.
+    /// The digits to the left of the point, and to the right of it.
     pub whole: u8,
     pub part: u8,
 }
 
-// A sum of counts that stands still at 255, past each limit.
+// A sum of counts that stays at 255, past each limit.
 pub fn tally(count: u8, more: u8) -> u8
     ensures { result ≡ shapes.tally count more }
 {
@@ -51,6 +51,7 @@ pub fn tally(count: u8, more: u8) -> u8
 }
 
 impl Shape {
+    /// The shape of no symbols.
     pub fn empty() -> Shape
         ensures { result ≡ shapes.empty }
     {
@@ -65,7 +66,7 @@ impl Shape {
         }
     }
 
-    /// The mask with one symbol more, where it may come.
+    /// The mask with one more symbol, where it may come.
     #[tactic(auto, unfolding(crate::specs::Shape::behind))]
     pub fn behind(self, symbol: u8) -> Option<Shape>
         ensures { result ≡ shapes.behind symbol self }
@@ -135,7 +136,7 @@ impl Shape {
         nines.with_digit()
     }
 
-    // There is one sign at most: in the lead, floating or in the tail.
+    // The mask with a sign, where it has none: in the lead, floating or in the tail.
     fn signed(self, stage: Stage) -> Option<Shape>
         ensures { result ≡ shapes.signed stage self }
     {
@@ -150,7 +151,7 @@ impl Shape {
         }
     }
 
-    // A string that floats begins left of the point.
+    // The mask at the beginning of a string that floats, which is left of the point.
     fn begun(self, stage: Stage) -> Option<Shape>
         ensures { result ≡ shapes.begun stage self }
     {
@@ -171,7 +172,7 @@ impl Shape {
         }
     }
 
-    // The string goes on by this symbol, which it may be of.
+    // The mask where the string goes on with this symbol, if the string is of it.
     fn again(self, first: u8, symbol: u8) -> Option<Shape>
         ensures { result ≡ shapes.again first symbol self }
     {
@@ -262,7 +263,7 @@ impl Shape {
         }
     }
 
-    // Where the body goes on by what has no digit.
+    // The mask where the body goes on with a symbol that isn't a digit.
     fn behind_body(self) -> Option<Shape>
         ensures { result ≡ shapes.body_by self.stage self }
     {
@@ -331,13 +332,14 @@ impl Shape {
         }
     }
 
-    /// A mask has a digit, and its tail is whole.
+    /// Whether the mask has a digit, and its tail is complete.
     pub fn is_whole(self) -> bool
         ensures { result ≡ shapes.is_whole self }
     {
         self.digits() != 0 && !self.is_half()
     }
 
+    /// How many digits there are on both sides of the point.
     pub fn digits(self) -> u16
         ensures { result ≡ shapes.digits self }
     {

@@ -1,4 +1,4 @@
-//! Masks, their faults, and what numbers show through them: worked by hand.
+//! Masks, their faults, and what numbers show through them, worked by hand.
 
 ghost use Rattle.std.specs.Prelude.{◌≤◌};
 

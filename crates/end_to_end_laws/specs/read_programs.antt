@@ -1,6 +1,6 @@
 -- The divisions are read twice, and both readings take the same tokens and read the same.
 pub mod division_readings
--- EXIT without a further word stands alone in the sentences of a program that is read.
+-- EXIT without a further word is alone in the sentences of a program that is read.
 pub mod exit_reading
 -- Lists of names are short in a program that is read, since each name takes a token.
 pub mod few_reading

@@ -1,6 +1,6 @@
-//! What the generated programs have in them, so that what is printed of them can be read: their
-//! names and numbers can be printed, the entry of the counter keeps the rules, each paragraph is
-//! told by its name, and their statements are spelled. Nothing here runs.
+//! Why what is printed of the generated programs can be read: their names and numbers can be
+//! printed, the entry of the counter keeps the rules, each paragraph is found by its name, and
+//! their statements are spelled. Nothing here runs.
 
 mod laws;
 pub mod readable_generated;

@@ -1,9 +1,9 @@
-//! The laws on whole programs: what is so of each that is read, of what it is restructured to, and
-//! of generated ones. Nothing here runs.
+//! The laws on whole programs: on each program that is read, on what it is restructured to, and on
+//! generated ones. Nothing here runs.
 //!
 //! Begin with `readable_results` and `read_headline` in `results`: a result is structured, behaves
-//! as its source and reads back. `read_programs` has what they stand on, a module a fact, and
-//! `generated` shows that each generated program reads back too.
+//! as its source and is read back. `read_programs` has what these are built on, a module for each
+//! fact, and `generated` shows that each generated program is read back too.
 #![tactic(auto)]
 
 pub mod generated;

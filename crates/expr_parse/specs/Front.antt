@@ -23,17 +23,19 @@ unfoldable pub enclosing_front : Inner → Referent → (of : List (List ℕ)) �
 enclosing_front inner found of position count =
     count_terms count 1 >>= (λ more. ref_behind inner found of position more >>= sum_front)
 
--- a name alone
+-- a name alone in front, without a parenthesis after it
 unfoldable pub bare_front : Referent → (of : List (List ℕ)) → Position → Form FirstInParens
 bare_front found of position =
     note (found_fault found 0 false position)
     >> pure (fronts.Either (ref_either found of position))
 
+-- what a name in front is, by whether a parenthesis follows it
 unfoldable pub name_behind : Inner → Referent → (of : List (List ℕ)) → Position → ℕ →
     Form FirstInParens
 name_behind inner found of position count = where_next (is_mark left_parenthesis)
     (enclosing_front inner found of position count) (bare_front found of position)
 
+-- a name in front
 unfoldable pub named_front : Names → Inner → ℕ → Form FirstInParens
 named_front names inner count = do
   first ← name

@@ -2,8 +2,8 @@
 //! definition of its name in `expr_forms` says.
 //!
 //! `token` sees which token is next, `fault` says what is wrong with a use, `side`, `chain` and
-//! `either` make what is read, `drops` lets it go. Hold the definitions, not this crate, against
-//! ISO 1989:1985.
+//! `either` make what is read, and `drops` drops it. The definitions, not this crate, are to be
+//! compared with ISO 1989:1985.
 
 mod behind;
 mod chain;

@@ -1,4 +1,4 @@
-//! What an expression is read by.
+//! The data with which an expression is read.
 
 use std::alloc::Global;
 use symbol_tables::data_names::NameTable;

@@ -124,7 +124,7 @@ pub fn unary(
     }
 }
 
-/// Reads one more operand behind an operator.
+/// Reads one more operand after an operator.
 #[cycle(exprs)]
 #[tactic(auto, unfolding(cobol_grammar::specs::expr_forms::Expression::operated))]
 pub fn operated(
@@ -187,7 +187,7 @@ fn turns(
     Ok(state)
 }
 
-/// Goes on behind a first operand.
+/// Goes on after a first operand.
 #[cycle(exprs)]
 #[tactic(auto, unfolding(cobol_grammar::specs::expr_forms::Expression::sum))]
 pub fn sum(

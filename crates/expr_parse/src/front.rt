@@ -1,4 +1,4 @@
-//! Subscripts or a window behind a reference.
+//! Subscripts or a window after a reference.
 
 ghost use Rattle.std.specs.Prelude.{◌≡◌};
 ghost use Rattle.parser_combinators.specs.Reading.{Reads};
@@ -54,7 +54,7 @@ fn plus_front(
     }
 }
 
-/// Goes on behind a name that a parenthesis follows, so that it is no subscript.
+/// Goes on after a name that a parenthesis follows, so that it isn't a subscript.
 #[cycle(exprs)]
 #[tactic(auto, unfolding(crate::specs::Front::enclosing_front))]
 fn enclosing_front(
@@ -88,7 +88,7 @@ fn bare_front(
     Ok(FirstInParens::Either(ref_either(alloc, found, of, position)?))
 }
 
-/// Goes on behind a name.
+/// Goes on after a name.
 #[cycle(exprs)]
 #[tactic(auto, unfolding(crate::specs::Front::name_behind))]
 fn name_behind(
@@ -168,6 +168,7 @@ fn other_front(
     }
 }
 
+/// Reads what comes first in the parentheses after a reference.
 #[cycle(exprs)]
 #[tactic(auto, unfolding(cobol_grammar::specs::expr_forms::Front::first_front))]
 pub fn first_front(
@@ -187,7 +188,7 @@ pub fn first_front(
     }
 }
 
-/// Goes on behind an operator after which it is no subscripts.
+/// Goes on after an operator that can't be in subscripts.
 #[cycle(exprs)]
 #[tactic(auto, unfolding(cobol_grammar::specs::expr_forms::Front::decided))]
 fn decided(
@@ -370,6 +371,7 @@ fn front_turn(
     }
 }
 
+/// Goes on with operators and operands, as many as there are.
 #[cycle(exprs)]
 pub fn front_turns(
     cursor: &mut Cursor<'_>,
@@ -410,7 +412,7 @@ fn subs_suffix(
     }
 }
 
-/// Goes on behind a sum that begins a window.
+/// Goes on after a sum that begins a window.
 #[cycle(exprs)]
 fn window_end(
     cursor: &mut Cursor<'_>,
@@ -449,6 +451,7 @@ fn colon_end(
     }
 }
 
+/// Reads the rest of the parentheses: more subscripts, or a window.
 #[cycle(exprs)]
 #[tactic(auto, unfolding(cobol_grammar::specs::expr_forms::Front::front_end))]
 pub fn front_end(

@@ -1,4 +1,4 @@
-//! What stands in parentheses, with so many levels of them.
+//! What is in parentheses, with so many levels of them left.
 
 ghost use Rattle.parser_combinators.specs.Reading.{Reads};
 ghost use Rattle.cobol_grammar.specs.expr_forms.Reference as references;
@@ -220,7 +220,7 @@ pub fn data_reference(
     Ok(side)
 }
 
-/// Reads a reference outside of any expression behind its first word, which stands there.
+/// Reads a reference outside of any expression, after its first word, which is at this position.
 #[tactic(auto, unfolding(cobol_grammar::specs::expr_forms::Levels::data_reference_behind))]
 pub fn data_reference_behind(
     alloc: Global,

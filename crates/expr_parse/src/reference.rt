@@ -27,7 +27,7 @@ fn qualifier(cursor: &mut Cursor<'_>) -> Result<Word, Unread>
     Ok(word)
 }
 
-/// Takes the qualifiers behind a name, as many as there are.
+/// Takes the qualifiers after a name, as many as there are.
 pub fn qualifiers(alloc: Global, cursor: &mut Cursor<'_>) -> Result<Items<Word>, Unread>
     ensures { Reads (references.qualifiers.reads cursor.old) result cursor.new }
 {
@@ -82,7 +82,7 @@ fn behind(
     }
 }
 
-/// Reads what stands behind the words of a reference.
+/// Reads what comes after the words of a reference.
 #[cycle(exprs)]
 #[tactic(auto, unfolding(cobol_grammar::specs::expr_forms::Reference::ref_behind))]
 pub fn ref_behind(
@@ -105,7 +105,7 @@ pub fn ref_behind(
     Ok((ref_side(found, of, subs, window, position), count))
 }
 
-/// Reads a reference behind its first word.
+/// Reads a reference after its first word.
 #[cycle(exprs)]
 #[tactic(auto, unfolding(cobol_grammar::specs::expr_forms::Reference::reference_behind))]
 pub fn reference_behind(

@@ -102,7 +102,7 @@ fn sub(alloc: Global, cursor: &mut Cursor<'_>, names: &NameTable) -> Result<Sub,
     }
 }
 
-/// One more subscript.
+/// Reads one more subscript.
 fn sub_behind(
     alloc: Global,
     cursor: &mut Cursor<'_>,

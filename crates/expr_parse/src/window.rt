@@ -12,7 +12,7 @@ use cob_tree::{Expr, Window};
 use cobol_grammar::expr_forms::Side;
 use parser_combinators::{Cursor, Unread};
 
-/// What is counted where a window's second expression begins.
+/// The count of terms where a window's second expression begins.
 fn second_count(alone: bool, count: u32) -> u32
     ensures { result ≡ windows.second_count alone count }
 {
@@ -38,7 +38,7 @@ fn length_part(
     }
 }
 
-/// Goes on behind the first expression of a window.
+/// Goes on after the first expression of a window.
 #[cycle(exprs)]
 #[tactic(auto, unfolding(cobol_grammar::specs::expr_forms::Window::window_behind))]
 pub fn window_behind(

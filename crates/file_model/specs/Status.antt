@@ -4,9 +4,11 @@ use Rattle.cob_tree.specs.declared.file.How.{How}
 use Rattle.cob_tree.specs.declared.file.How.TheVariants as how
 use Rattle.file_model.specs.declared.table.FileRow.{FileRow}
 
+-- a file that isn't open
 abbrev pub closed_row : FileRow
 closed_row = record { how = None; ended = false; has_record = false }
 
+-- a file that was opened in this mode
 abbrev pub opened_row : How → FileRow
 opened_row mode = record { how = Some mode; ended = false; has_record = false }
 
@@ -14,12 +16,13 @@ opened_row mode = record { how = Some mode; ended = false; has_record = false }
 abbrev pub read_row : Bool → FileRow → FileRow
 read_row ended row = record { how = row.how; ended = ended; has_record = not ended }
 
--- any other operation, also one that was refused
+-- how a file stands after any other operation, also one that was refused
 abbrev pub other_row : FileRow → FileRow
 other_row row = record { how = row.how; ended = row.ended; has_record = false }
 
 -- ---- ways to be open
 
+-- the file is open as INPUT or I-O
 abbrev pub can_read : Option How → Bool
 can_read None = false
 can_read (Some how.Input) = true
@@ -27,6 +30,7 @@ can_read (Some how.Output) = false
 can_read (Some how.InOut) = true
 can_read (Some how.Extend) = false
 
+-- the file is open as OUTPUT or EXTEND
 abbrev pub can_write : Option How → Bool
 can_write None = false
 can_write (Some how.Input) = false
@@ -34,6 +38,7 @@ can_write (Some how.Output) = true
 can_write (Some how.InOut) = false
 can_write (Some how.Extend) = true
 
+-- the file is open as I-O
 abbrev pub is_in_out : Option How → Bool
 is_in_out None = false
 is_in_out (Some how.Input) = false

@@ -15,6 +15,7 @@ use Rattle.file_model.specs.Attempts.{over, start_at, is_output}
 
 -- ---- the files of a device, of which the first of a name counts
 
+-- the first file of that name
 abbrev pub found : List ℕ → List MemFile → Option MemFile
 found name [] = None
 found name (file ∷ files) = if bytes_eq file.name name then Some file else found name files
@@ -27,7 +28,7 @@ changed name change (file ∷ files) =
 
 -- ---- what becomes of a file
 
--- OUTPUT empties it; Input and InOut stand at its start, and Extend at its end
+-- OUTPUT empties it; Input and InOut are at its start, and Extend at its end
 abbrev pub opened_as : How → MemFile → MemFile
 opened_as mode file =
     record {
@@ -42,7 +43,7 @@ opened_as mode file =
 abbrev pub made : List ℕ → MemFile
 made name = record { name = name; bytes = []; how = Some how.Output; at = 0; last = None }
 
--- past so many bytes, which were read
+-- the file after so many bytes were read
 abbrev pub read_on : ℕ → MemFile → MemFile
 read_on size file =
     record {
@@ -53,6 +54,7 @@ read_on size file =
       last = Some file.at;
     }
 
+-- these bytes come after the file's
 abbrev pub appended : List ℕ → MemFile → MemFile
 appended bytes file =
     record {
@@ -63,7 +65,7 @@ appended bytes file =
       last = file.last;
     }
 
--- the record that was read last is replaced; a short one grows
+-- the file with the record replaced that was read last; a short one grows
 abbrev pub replaced_from : Option ℕ → List ℕ → MemFile → MemFile
 replaced_from None bytes file = file
 replaced_from (Some start) bytes file =
@@ -75,20 +77,23 @@ replaced_from (Some start) bytes file =
       last = file.last;
     }
 
+-- the record that was read last is replaced, if there is one
 abbrev pub replaced : List ℕ → MemFile → MemFile
 replaced bytes file = replaced_from file.last bytes file
 
+-- the file isn't open
 abbrev pub shut : MemFile → MemFile
 shut file =
     record { name = file.name; bytes = file.bytes; how = None; at = file.at; last = file.last }
 
 -- ---- calls: the files before, what is asked, the answer, the files then
 
--- the files where the name can be opened so, or none where it is missing
+-- the files after OPEN, where the name can be opened so, or none where it is missing
 abbrev pub opening : How → List ℕ → List MemFile → Option MemFile → Option (List MemFile)
 opening mode name files (Some file) = Some (changed name (opened_as mode) files)
 opening mode name files None = if is_output mode then Some (files ++ made name ∷ []) else None
 
+-- what OPEN answers, and the files then
 abbrev pub Opens : Option (List MemFile) → List ℕ → How → Opened → Option (List MemFile) → Type 0
 Opens None name mode answer now = now ≡ None
 Opens (Some files) name mode opened.Ready now =
@@ -98,7 +103,7 @@ Opens (Some files) name mode opened.Missing now =
 Opens (Some files) name mode opened.Failed now = now ≡ Some files
 Opens (Some files) name mode opened.NoMemory now = now ≡ Some files
 
--- the bytes behind the position, as many as fit
+-- the bytes after the position, as many as fit
 abbrev pub next_of : ℕ → MemFile → List ℕ
 next_of size file = take size (drop file.at file.bytes)
 
@@ -112,11 +117,13 @@ Gives name file files (got.Bytes n) old new now =
 Gives name file files got.End old new now = (drop file.at file.bytes ≡ []) × (now ≡ Some files)
 Gives name file files got.Failed old new now = now ≡ Some files
 
+-- what READ answers of the file, if there is one, with the buffer and the files then
 abbrev pub ReadsFrom : List ℕ → Option MemFile → List MemFile → Got → (old new : List ℕ) →
     Option (List MemFile) → Type 0
 ReadsFrom name None files answer old new now = now ≡ Some files
 ReadsFrom name (Some file) files answer old new now = Gives name file files answer old new now
 
+-- what READ answers, with the buffer and the files then
 abbrev pub Reads : Option (List MemFile) → List ℕ → Got → (old new : List ℕ) →
     Option (List MemFile) → Type 0
 Reads None name answer old new now = now ≡ None
@@ -145,17 +152,20 @@ Changes (Some files) name change put.NoMemory now = now ≡ Some files
 
 -- ---- counts of failures
 
+-- OPEN failed
 abbrev pub open_fails : Opened → Bool
 open_fails opened.Ready = false
 open_fails opened.Missing = false
 open_fails opened.Failed = true
 open_fails opened.NoMemory = false
 
+-- READ failed
 abbrev pub read_fails : Got → Bool
 read_fails (got.Bytes n) = false
 read_fails got.End = false
 read_fails got.Failed = true
 
+-- a call that writes failed
 abbrev pub put_fails : Put → Bool
 put_fails put.Done = false
 put_fails put.Failed = true

@@ -4,17 +4,17 @@ ghost use Rattle.std.specs.Prelude.{◌≡◌, ◌≤◌, take, vec_len};
 
 use crate::device::Device;
 
-/// The devices on a bench, and behind it those that failed.
+/// The devices on a bench, and after them those that failed and were taken off.
 #[derive(Drop)]
 pub struct Bench {
     pub devices: Vec<Box<dyn Device>>,
-    /// How many of them are on the bench, in their order.
+    /// How many of the devices, the first ones, are on the bench.
     pub left: usize,
     ghost within: { left ≤ vec_len devices },
 }
 
 impl Bench {
-    /// All of these devices on a bench.
+    /// A bench with all of these devices.
     pub fn new(devices: Vec<Box<dyn Device>>) -> Bench
         ensures devices { result.devices ≡ devices }
         ensures left { result.left ≡ vec_len devices }
@@ -23,7 +23,7 @@ impl Bench {
         Bench { devices, left }
     }
 
-    /// Drops the devices behind the bench.
+    /// Drops the devices that were taken off the bench.
     pub fn drop_failed(&mut self)
         ensures devices { self.new.devices.items ≡ take self.old.left self.old.devices.items }
         ensures left { self.new.left ≡ self.old.left }

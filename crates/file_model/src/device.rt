@@ -1,4 +1,4 @@
-//! What the outside gives: devices with files.
+//! Devices with files, which the caller provides.
 
 ghost use Rattle.std.specs.Prelude.{◌≡◌, ◌≢◌, length};
 
@@ -13,10 +13,10 @@ pub enum Opened {
     NoMemory,
 }
 
-/// What is given of a file.
+/// What a read gives.
 #[derive(Clone, Copy, Debug, PartialEq, Eq)]
 pub enum Got {
-    /// So many bytes were put into the front of the buffer.
+    /// So many bytes were put at the front of the buffer.
     Bytes(usize),
     End,
     Failed,
@@ -30,7 +30,8 @@ pub enum Put {
     NoMemory,
 }
 
-/// Files by their names, by what they hold, where the device tells it, and by how often it failed.
+/// Files by their names. Contracts see what they hold, where that is known, and how often the
+/// device failed.
 pub trait Device: Drop {
     ghost use Rattle.std.specs.Prelude.{List, ℕ, Option, ◌≡◌, ◌≢◌, length};
     ghost use Rattle.file_model.specs.declared.mem_file.MemFile.{MemFile};
@@ -42,6 +43,7 @@ pub trait Device: Drop {
 
     ghost faults: { Self → ℕ };
 
+    /// The name of the device.
     fn name(&self) -> &[u8]
         ensures { result.now ≡ named self.now };
 
@@ -51,7 +53,7 @@ pub trait Device: Drop {
         ensures told { Opens (told self.old) file.now how result (told self.new) }
         ensures cause { Counts (open_fails result) (faults self.old) (faults self.new) };
 
-    /// Puts what comes next of a file into the front of `into`, which stays as it was where nothing
+    /// Puts what comes next of a file at the front of `into`, which stays as it was where nothing
     /// comes. For an `into` that isn't empty the end comes exactly where nothing is left.
     fn read_next(&mut self, file: &[u8], into: &mut [u8]) -> Got
         ensures name { named self.new ≡ named self.old }
@@ -67,14 +69,14 @@ pub trait Device: Drop {
             (told self.new) }
         ensures cause { Counts (put_fails result) (faults self.old) (faults self.new) };
 
-    /// Puts a whole record in the place of the one that was read last.
+    /// Replaces the record that was read last by a whole record.
     fn rewrite_last(&mut self, file: &[u8], bytes: &[u8]) -> Put
         ensures name { named self.new ≡ named self.old }
         ensures told { Changes (told self.old) file.now (replaced bytes.now) result
             (told self.new) }
         ensures cause { Counts (put_fails result) (faults self.old) (faults self.new) };
 
-    /// Closes a file. It takes no memory.
+    /// Closes a file, without allocating.
     fn close_file(&mut self, file: &[u8]) -> Put
         ensures name { named self.new ≡ named self.old }
         ensures told { Changes (told self.old) file.now shut result (told self.new) }

@@ -1,9 +1,9 @@
 //! A device over the files of one folder, as `main` hands it to the interpreter under the name
 //! DISK.
 //!
-//! It is an edge of what is proved: it keeps the trait's clauses on names, lengths and counts of
-//! failures, and tells nothing of what files hold. A test of `interpreter_tests` tries it on a real
-//! folder.
+//! It is at the edge of what is proved: it keeps the trait's clauses on names, lengths and counts
+//! of failures, and contracts know nothing of what its files hold. A test of `interpreter_tests`
+//! tries it on a real folder.
 
 mod folder_file;
 mod slot;
@@ -19,8 +19,8 @@ use std::alloc::Global;
 use std::fs::Files;
 use std::io::{Error, ErrorKind, Result as IoResult};
 
-/// The files of one folder. Each error of the system counts as a failure, but at OPEN a file that
-/// is missing and want of memory. A name that is open already is closed, and then opened anew.
+/// The files of one folder. Each error of the system counts as a failure, except at OPEN a missing
+/// file and out of memory. A name that is already open is closed, and then opened again.
 #[derive(Drop)]
 pub struct FolderDevice<R: Files + Drop> {
     name: Text,
@@ -68,7 +68,7 @@ impl<R: Files + Drop> FolderDevice<R> {
         self.count = self.count.saturating_add(1);
     }
 
-    // A file that is opened anew is let go first, with what it has written.
+    // A file that is opened again is closed first, with what it has written.
     fn try_open(&mut self, file: &[u8], how: How) -> IoResult<()>
         ensures name { self.new.name ≡ self.old.name }
         ensures count { self.new.count ≡ self.old.count }

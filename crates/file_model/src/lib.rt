@@ -1,9 +1,10 @@
-//! Devices with files, and what becomes of the files of a program (ISO 1989:1985, Sequential I-O).
+//! Devices with files, and the state of the files of a program (ISO 1989:1985, Sequential I-O).
 //!
-//! `specs` has the world of a run: the devices with their files, and how each file of the program
-//! stands; and one attempt an operation, which gives the world after it, the bytes that it moved
-//! and its status. A `Device` is what the outside gives; a `Bench` holds devices; a `FileTable`
-//! keeps how each file of the program stands and answers the statuses that need no device.
+//! `specs` has the world of a run, which is the devices with their files and the state of each file
+//! of the program; and for each operation one attempt, which gives the world after it, the bytes
+//! that it moved and its status. A `Device` is provided by the caller; a `Bench` holds devices; a
+//! `FileTable` keeps the state of each file of the program and answers the statuses that need no
+//! device.
 #![tactic(auto)]
 
 mod bench;

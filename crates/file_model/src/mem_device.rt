@@ -13,7 +13,7 @@ use cob_base::{NoMemory, Text};
 use cob_tree::How;
 use std::alloc::Global;
 
-/// Files in memory, by their names, of which no two have one.
+/// Files in memory, by their names, which are all different.
 #[derive(Debug, Drop)]
 pub struct MemDevice {
     pub name: Text,
@@ -56,7 +56,7 @@ fn open_as(file: &mut MemFile, how: How)
     }
 }
 
-// What comes next of a file, as much as fits.
+// Reads what comes next of a file, as much as fits.
 fn read_on(file: &mut MemFile, into: &mut [u8]) -> Got
     ensures bound { GivesAtMost (length into.old) result }
     ensures ungiven { StaysUngiven result into.old into.new }
@@ -81,7 +81,7 @@ fn append(file: &mut MemFile, bytes: &[u8]) -> Result<(), NoMemory>
     file.bytes.add(bytes)
 }
 
-// Bytes in the place of those from a place on, and the position behind them.
+// Replaces the bytes from a place on, and sets the position after them.
 fn replace(file: &mut MemFile, start: usize, bytes: &[u8]) -> Result<(), NoMemory>
     ensures ok { OnOk result (file.new ≡ replaced_from (Some start) bytes.now file.old) }
     ensures err { OnErr result (file.new ≡ file.old) }
@@ -121,7 +121,7 @@ fn new_file(alloc: Global, name: &[u8]) -> Result<MemFile, NoMemory>
     })
 }
 
-// Makes a file, which no other has the name of.
+// Makes a file, with a name that no other has.
 fn make(files: &mut Vec<MemFile>, name: &[u8]) -> Result<(), NoMemory>
     ensures ok { OnOk result (files.new.items ≡ files.old.items ++ made name.now ∷ []) }
     ensures err { OnErr result (files.new.items ≡ files.old.items) }

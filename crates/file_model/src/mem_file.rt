@@ -12,6 +12,6 @@ pub struct MemFile {
     pub how: Option<How>,
     /// The byte at which the next read begins.
     pub at: usize,
-    /// Where the record begins that was read last.
+    /// Where the record that was read last begins; none where none was read.
     pub last: Option<usize>,
 }

@@ -6,7 +6,8 @@ use crate::device::{Device, Got, Opened, Put};
 use cob_base::Text;
 use cob_tree::How;
 
-/// Opens every name, reads the end and drops what is written. It tells no files and never fails.
+/// Opens every name, reads the end and drops what is written. Contracts know none of its files; it
+/// never fails.
 #[derive(Debug, Drop)]
 pub struct NullDevice {
     pub name: Text,

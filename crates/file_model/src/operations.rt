@@ -1,10 +1,10 @@
 //! Operations on the files of a program, over the devices of a bench (ISO 1989:1985, Sequential
 //! I-O).
 //!
-//! OPEN, CLOSE, READ, WRITE and REWRITE first ask the table that keeps how each file stands; what
-//! it refuses is noted, and no device is asked. Else the first device on the bench that has the
-//! file's device name is asked. A device that answers that it failed is taken off the bench, and
-//! the files of the program that are on it are closed in the table.
+//! OPEN, CLOSE, READ, WRITE and REWRITE first look at the table, which keeps the state of each
+//! file; what it refuses is noted, and no device is called. Otherwise the first device on the bench
+//! with the file's device name is called. A device that answers that it failed is taken off the
+//! bench, and the program's files on it are closed in the table.
 
 mod address;
 mod calls;

@@ -1,4 +1,4 @@
-//! How the files of a program stand.
+//! The state of the files of a program.
 
 ghost use Rattle.std.specs.Prelude.{◌≡◌, ◌<◌, length, replicate, slice_set, IfSome, slice_get};
 ghost use Rattle.cob_base.specs.Answers.{Makes};
@@ -8,14 +8,14 @@ use cob_base::{Items, NoMemory};
 use cob_tree::How;
 use std::alloc::Global;
 
-/// How a file stands: what the operations done so far leave open.
+/// The state of a file, as the operations so far leave it.
 #[derive(Clone, Copy, Debug, PartialEq, Eq)]
 pub struct FileRow {
     /// How it is open.
     pub how: Option<How>,
-    /// A READ came to the end since it was opened.
+    /// Whether a READ came to the end since it was opened.
     pub ended: bool,
-    /// The last operation was a READ that gave a record.
+    /// Whether the last operation was a READ that gave a record.
     pub has_record: bool,
 }
 
@@ -105,7 +105,7 @@ impl FileRow {
     }
 }
 
-/// How each file of a program stands, by its place among the files.
+/// The state of each file of a program, by its place among the files.
 #[derive(Debug, Drop)]
 pub struct FileTable {
     pub rows: Items<FileRow>,
@@ -129,7 +129,7 @@ impl FileTable {
         self.rows.as_slice()[file as usize]
     }
 
-    /// 0, or the status that OPEN has before a device is asked.
+    /// 0, or the status that OPEN has before a device is called.
     pub fn may_open(&self, file: u32) -> u8
         requires { file < length self.now.rows }
         ensures { IfSome (slice_get self.now.rows file) (λ row. result ≡ may_open row) }
@@ -137,7 +137,7 @@ impl FileTable {
         self.row(file).may_open()
     }
 
-    /// 0, or the status that READ has before a device is asked.
+    /// 0, or the status that READ has before a device is called.
     pub fn may_read(&self, file: u32) -> u8
         requires { file < length self.now.rows }
         ensures { IfSome (slice_get self.now.rows file) (λ row. result ≡ may_read row) }
@@ -145,7 +145,7 @@ impl FileTable {
         self.row(file).may_read()
     }
 
-    /// 0, or the status that WRITE has before a device is asked.
+    /// 0, or the status that WRITE has before a device is called.
     pub fn may_write(&self, file: u32) -> u8
         requires { file < length self.now.rows }
         ensures { IfSome (slice_get self.now.rows file) (λ row. result ≡ may_write row) }
@@ -153,7 +153,7 @@ impl FileTable {
         self.row(file).may_write()
     }
 
-    /// 0, or the status that REWRITE has before a device is asked.
+    /// 0, or the status that REWRITE has before a device is called.
     pub fn may_rewrite(&self, file: u32) -> u8
         requires { file < length self.now.rows }
         ensures { IfSome (slice_get self.now.rows file) (λ row. result ≡ may_rewrite row) }
@@ -161,7 +161,7 @@ impl FileTable {
         self.row(file).may_rewrite()
     }
 
-    /// 0, or the status that CLOSE has before a device is asked.
+    /// 0, or the status that CLOSE has before a device is called.
     pub fn may_close(&self, file: u32) -> u8
         requires { file < length self.now.rows }
         ensures { IfSome (slice_get self.now.rows file) (λ row. result ≡ may_close row) }

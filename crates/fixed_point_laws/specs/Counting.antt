@@ -48,8 +48,7 @@ TellsArms plan program most = (range : Range) → In range (Main ∷ plan.others
     (closed_graph (graphs_by plan program range)).entry)) ≡ Some arms →
     arms ≤ suc (size (graphs_by plan program range).nodes) → most range cell ≡ arms
 
--- then each procedure of a source nests, performing procedures, and each of its choices has so many
--- arms
+-- each procedure of a source nests, performing procedures, and each of its choices has so many arms
 abbrev pub ProceduresAreCounted : Type 0
 ProceduresAreCounted =
     (naming : Naming) (most : Range → ℕ → ℕ) (plan : Plan) (program : Program) →

@@ -11,10 +11,11 @@ use Rattle.control_flow_theory.specs.main_theorem.MainTheorem.{Plan, procedures_
 use Rattle.fixed_point.specs.Fixed.{stands_in, result_by}
 use Rattle.fixed_point.specs.Written.{NamesAlike}
 
--- a source is written by this plan and naming, and lowering is told this of the result
+-- a source is written by this plan and naming, and lowering knows this of the result
 pub record IsFirstWritten (plan : Plan) (program : Program) (naming : Naming) (told : FlowFacts)
     : Type 0 where
   pub source : IsSource plan.told program
+  -- each chooser that may be left out gives some arm
   pub gives : GivesSome plan.told
   pub planned : IsPlan plan.told program plan.keep plan.others
   -- each procedure performs procedures, and nests
@@ -26,7 +27,7 @@ pub record IsFirstWritten (plan : Plan) (program : Program) (naming : Naming) (t
   pub result : IsSource told (result_by plan program naming)
   pub names : NamesAlike naming plan.told told
 
--- then flow paths enter each paragraph of the result
+-- flow paths enter each paragraph of the result
 abbrev pub ResultsAreEntered : Type 0
 ResultsAreEntered =
     (plan : Plan) (program : Program) (naming : Naming) (told : FlowFacts) →

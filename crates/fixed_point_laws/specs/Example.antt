@@ -11,7 +11,7 @@ use Rattle.fixed_point.specs.Fixed.{result_by, ResultIsWritten}
 abbrev pub stopping : Program
 stopping = record { paragraphs = (also StopRun none ∷ []) ∷ [] }
 
--- of main, the paragraph's node
+-- the nodes that are kept: of main, the paragraph's node
 abbrev pub stopping_kept : Range → Label → Bool
 stopping_kept Main label = label == 0
 stopping_kept (Part entry exit) label = true
@@ -20,7 +20,7 @@ stopping_kept (Part entry exit) label = true
 abbrev pub stopping_plan : Plan
 stopping_plan = record { told = flow_facts_of [] []; keep = stopping_kept; others = [] }
 
--- without an item
+-- how it is written, without an item
 abbrev pub stopping_way : Way
 stopping_way = record {
   first = 0;

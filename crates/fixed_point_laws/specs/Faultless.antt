@@ -7,7 +7,8 @@ use Rattle.cobol_theory.specs.cobol_parts.Named.{NamesOwnParagraphs}
 use Rattle.program_points.specs.numbering.Kind.{never_first_of}
 use Rattle.program_points.specs.paths.Flow.{IsFaulty}
 
--- whatever its data, and whichever of its files have a status item
+-- no flow path of a structured program comes to a fault, whatever its data, and whichever of its
+-- files have a status item
 abbrev pub StructuredProgramsAreFaultless : Type 0
 StructuredProgramsAreFaultless =
     (program : Program) → NamesOwnItems program → NamesOwnParagraphs program →

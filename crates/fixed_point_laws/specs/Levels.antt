@@ -15,7 +15,7 @@ LevelsPerformLater =
     IsCalled told program range entry exit →
     NamesLater (length program.paragraphs) number entry exit
 
--- so each range that is entered, but main, is a paragraph by itself
+-- each range of a structured program that is entered, but main, is a paragraph by itself
 abbrev pub EnteredAreParagraphs : Type 0
 EnteredAreParagraphs =
     (told : FlowFacts) (program : Program) → IsStructured program → (entry exit : ℕ) →

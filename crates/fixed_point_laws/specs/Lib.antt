@@ -12,7 +12,7 @@ pub mod Choices
 pub mod Levels
 -- Which paragraphs of a result flow paths enter.
 pub mod Entering
--- In which order the procedures of a structured program stand.
+-- In which order the procedures of a structured program come.
 pub mod Ordering
 -- What restructuring a result adds: nothing.
 pub mod Adding

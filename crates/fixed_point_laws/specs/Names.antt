@@ -13,7 +13,7 @@ use Rattle.fixed_point.specs.Choices.{ChooserAgain}
 abbrev pub PartsKeepNames : Type 0
 PartsKeepNames = (way : Way) → KeepsParts (naming_in way)
 
--- where AT END stands in what is written, the first arm may be given, and nowhere else
+-- where AT END is there in what is written, the first arm may be given, and nowhere else
 abbrev pub ReadsAreAlike : Type 0
 ReadsAreAlike = (way : Way) (files : List FileEntry) (once again : List (List ℕ)) →
     NamesAlike (naming_in way) (flow_facts_of files once) (flow_facts_of files again)

@@ -1,4 +1,4 @@
--- In which order the procedures of a structured program stand.
+-- In which order the procedures of a structured program come.
 use Rattle.std.specs.Prelude.{ℕ, suc, ◌≡◌, ◌≤◌, ◌<◌, List, ◌∷◌, length, Some, slice_get}
 use Rattle.cob_tree.specs.declared.program.Range as tree
 use Rattle.control_flow_theory.specs.language.Language.{Program, Range, Main, Part}
@@ -15,9 +15,12 @@ use Rattle.fixed_point.specs.Again.{IsRangeAt}
 
 -- the ranges of the plan are the program's paragraphs, in their order
 pub record GoesByPlaces (program : Program) (order : List tree.Range) : Type 0 where
+  -- there are as many
   pub many : suc (length (others_of order)) ≡ length program.paragraphs
+  -- each range is the paragraph with its number
   pub each : (number : ℕ) (range : Range) →
       slice_get (Main ∷ others_of order) number ≡ Some range → IsRangeAt number range
+  -- and begins there
   pub begins : (number : ℕ) (range : tree.Range) → slice_get order number ≡ Some range →
       range.entry ≡ number
 

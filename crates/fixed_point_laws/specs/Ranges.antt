@@ -9,13 +9,13 @@ use Rattle.control_flow_theory.specs.language.Structured.{IsStructured}
 use Rattle.program_points.specs.perform_ranges.Named.{AreRangesOf}
 use Rattle.pending_returns.specs.Summary.{IsPast}
 
--- with main no more than it has paragraphs
+-- a structured program names no more ranges, with main, than it has paragraphs
 abbrev pub StructuredProgramsNameFew : Type 0
 StructuredProgramsNameFew =
     (program : Program) → IsStructured (control_of program) → (ranges : List Range) →
     AreRangesOf program ranges → length ranges ≤ length program.paragraphs
 
--- so one of no more paragraphs than a text may name ranges doesn't pass that limit
+-- a structured program of no more paragraphs than a text may name ranges doesn't pass that limit
 abbrev pub StructuredProgramsPassNoRanges : Type 0
 StructuredProgramsPassNoRanges =
     (program : Program) → IsStructured (control_of program) → length program.paragraphs ≤ 5000 →

@@ -19,11 +19,13 @@ use Rattle.end_to_end_laws.specs.results.readable_results.Laws.{IsWithinLimits}
 
 -- the program is split into itself, and its text is read as it
 pub record IsFixed (made : Program) : Type 0 where
+  -- its text is read back as it
   pub read_back : Reads (printed made) made
   -- no flow path comes to a fault
   pub faultless : IsFaulty (never_first_of made.files) (control_of made) → ⊥
-  -- it passes no limit: on the ranges that it names, on labels and statements, or on nesting
+  -- it passes no limit on the ranges that it names
   pub ranges : (limit : Limit) → IsPast made (fault.Limit limit) → ⊥
+  -- it passes no limit where it is split: on labels and statements, or on nesting
   pub within : (summary : Summary) (limit : Limit) →
       IsSummary (never_first_of made.files) (control_of made) summary →
       IsSplitFault made summary (fault.Limit limit) → ⊥
@@ -32,7 +34,7 @@ pub record IsFixed (made : Program) : Type 0 where
       IsSummary (never_first_of made.files) (control_of made) summary →
       IsSplitWith made summary split → (split.program ≡ made) × (split.added ≡ none_added)
 
--- so is the result of each program that is read and passes no limit
+-- the result of each program that is read and passes no limit is fixed so
 abbrev pub ResultsAreFixed : Type 0
 ResultsAreFixed =
     (bytes : List ℕ) (program made : Program) (summary : Summary) → Reads bytes program →

@@ -19,7 +19,7 @@ SplitsKeepControl =
     IsSummary (never_first_of made.files) (control_of made) other → IsSplit made other again →
     control_of again ≡ control_of made
 
--- and so is all the rest: it is that very program, and nothing is added
+-- what a result is split into is that very program, and nothing is added
 abbrev pub SplitsComeAgain : Type 0
 SplitsComeAgain =
     (program made : Program) (summary other : Summary) (again : Split) → IsWellMade program →

@@ -8,11 +8,12 @@ use Rattle.control_flow_theory.specs.lowering.Lowered.{total}
 use Rattle.cobol_print.specs.Unit.{all_tokens}
 use Rattle.cobol_print.specs.units.Division.{program_units}
 
--- its paragraphs, and the statements in them
+-- how many paragraphs and statements there are
 abbrev pub parts_of : List language.Paragraph → ℕ
 parts_of [] = 0
 parts_of (paragraph ∷ others) = suc (total paragraph) + parts_of others
 
+-- the paragraph has a name
 abbrev pub IsNamed : Paragraph → Type 0
 IsNamed paragraph = IsSome paragraph.name
 

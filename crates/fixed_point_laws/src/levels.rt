@@ -2,8 +2,8 @@
 
 ghost use Rattle.fixed_point_laws.specs.Levels.{EnteredAreParagraphs, LevelsPerformLater};
 
-/// The level of each paragraph performs only later ones, each by itself; so each range that is
-/// entered, but main, is a paragraph by itself.
+/// The level of each paragraph performs only later ones, one at a time; so each range that is
+/// entered, except main, is one paragraph.
 pub fn levels_perform_later()
     ensures later { LevelsPerformLater }
     ensures entered { EnteredAreParagraphs }

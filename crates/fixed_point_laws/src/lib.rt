@@ -1,13 +1,13 @@
-//! The fixed point of restructuring: what a program is split into isn't faulty, passes no limit, and
-//! is split into itself, so that restructuring what was restructured gives the same text.
+//! The fixed point of restructuring: what a program is split into isn't faulty, passes no limit,
+//! and is split into itself, so that restructuring what was restructured gives the same text.
 //!
-//! Begin with `specs/Results.antt`, the whole of programs that are read, and `specs/Splitting.antt`,
-//! `splits_come_again`. They stand on `fixed_point`, which has the same of the theory of control:
-//! its premise `ResultIsWritten` is met here for COBOL, part by part (`names`, `turning`,
+//! Begin with `specs/Results.antt`, for programs that are read, and `specs/Splitting.antt`,
+//! `splits_come_again`. They are built on `fixed_point`, which has the same for the theory of
+//! control: its premise `ResultIsWritten` is met here for COBOL, part by part (`names`, `turning`,
 //! `counting`, `tables`, `choices`), and by a small program (`example`). `levels`, `entering` and
-//! `ordering` say that a result's procedures stand in the order of their paragraphs; `placing` and
+//! `ordering` say that a result's procedures are in the order of their paragraphs; `placing` and
 //! `adding`, that these keep their names and that no item is added; `faultless`, `ranges`, `tokens`
-//! and `limits`, that no fault and no limit stands in the way. Nothing here runs.
+//! and `limits`, that there is no fault and that no limit is passed. Nothing here runs.
 #![tactic(auto)]
 
 pub mod adding;

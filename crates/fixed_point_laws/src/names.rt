@@ -1,4 +1,4 @@
-//! What COBOL parts are called in a result, they are called again.
+//! The names that COBOL parts have in a result stay the same when it is restructured again.
 
 ghost use Rattle.fixed_point_laws.specs.Names.{ChoosersComeAgain, PartsKeepNames, ReadsAreAlike, WhatActsIsWrittenSo};
 

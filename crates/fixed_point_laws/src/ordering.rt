@@ -1,8 +1,9 @@
-//! In which order the procedures of a structured program stand.
+//! The order of the procedures of a structured program.
 
 ghost use Rattle.fixed_point_laws.specs.Ordering.{PlansGoByPlaces};
 
-/// The plan of a structured program each of whose paragraphs is entered has these in their order.
+/// The plan of a structured program has the paragraphs in their order, where each of them is
+/// entered.
 pub fn plans_go_by_places()
     ensures { PlansGoByPlaces }
 {}

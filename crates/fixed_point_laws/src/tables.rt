@@ -1,4 +1,4 @@
-//! The table of cells tells how many arms their choices have.
+//! The table of cells gives how many arms their choices have.
 
 ghost use Rattle.fixed_point_laws.specs.Tables.{TablesTellArms};
 

@@ -67,13 +67,16 @@ AddsNode telling spots range label before after =
 pub record AreMade (telling : LoweringContext) (spots : List Continuation) (range : code.Range)
     (labels : List ℕ)
     (nodes : List Node) : Type 0 where
+  -- the nodes have these labels, in this order
   pub order : map (λ node. node.label) nodes ≡ labels
+  -- each is the node at its label
   pub trees : All (IsMade telling spots range) nodes
 
--- the nodes at these labels
+-- the node at this label
 abbrev pub node_by : (graph.Label → graph.Tree) → graph.Label → reduced.Node
 node_by trees label = record { label = label; tree = trees label }
 
+-- the nodes are those of the range at these labels, in any program of which it is the table
 abbrev pub AreNodesAt : LoweringContext → List Continuation → code.Range → List ℕ → List Node →
     Type 0
 AreNodesAt telling spots range labels nodes =

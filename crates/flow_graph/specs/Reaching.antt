@@ -19,6 +19,7 @@ use Rattle.flow_graph.specs.Jumps.{AddsJumps, JumpBelow}
 pub record IsRangeIn (telling : LoweringContext) (spots : List Continuation) (range : code.Range)
     (program : Program) : Type 0 where
   pub table : IsTableOf telling spots program
+  -- the range is one of the program
   pub own : IsRangeOf (control_of program) (seen_range range)
 
 -- it is reached in the range
@@ -46,6 +47,7 @@ AddsNodeJumps telling spots range label before after =
     (program : Program) → IsTableOf telling spots program →
     AddsJumps (graph.end_of (node_in telling program range label)) before after
 
+-- the node at a label jumps to labels below this one, in some program of which it is the table
 abbrev pub NodeJumpsBelow : LoweringContext → List Continuation → code.Range → (label end : ℕ) →
     Type 0
 NodeJumpsBelow telling spots range label end =

@@ -1,4 +1,4 @@
 -- how large graphs are
 pub mod Sizing
--- how large what stands in trees is
+-- how large what is in trees is
 pub mod Parts

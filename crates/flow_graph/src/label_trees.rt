@@ -1,9 +1,9 @@
 //! The trees of a range's nodes, by the table of rests.
 //!
-//! `label_tree` gives the tree at any label in any range: it goes along the rests from there on.
-//! Hold it against `nodes_of` of `control_flow_theory/specs/lowering/Lowered`: each tree is the one
-//! that is found there. `straight_run` gives the tree before a place only up to where it goes on as
-//! the tree at another place (`specs/label_trees/Run`).
+//! `label_tree` gives the tree at any label in any range: it follows the rests from there on. It is
+//! to be compared with `nodes_of` of `control_flow_theory/specs/lowering/Lowered`, which has the
+//! same trees. `straight_run` gives the tree before a place only up to where it goes on as the tree
+//! at another place (`specs/label_trees/Run`).
 
 mod node;
 mod run;

@@ -1,9 +1,9 @@
 //! The lowered graph of a range: the trees of its reached nodes, in the order of their labels.
 //!
-//! `lower_within` looks for the labels that are reached from the range's entry, as
-//! `pending_returns::levels::reached` looks for places, and has the tree at each by
-//! `crate::label_trees::label_tree`, once. It gives up where there are more labels and statements
-//! than it is told. Hold it against `IsLowered` of `specs/Lowered`, and `IsLoweredWithin` of
+//! `lower_within` searches for the labels that are reached from the range's entry, as
+//! `pending_returns::levels::reached` searches for places, and makes the tree at each once, by
+//! `label_trees::label_tree`. It gives up where there are more labels and statements than its
+//! limit. It is to be compared with `IsLowered` of `specs/Lowered`, and `IsLoweredWithin` of
 //! `specs/Counts`.
 #![tactic(auto)]
 

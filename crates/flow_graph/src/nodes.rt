@@ -30,8 +30,8 @@ pub fn first_of(range: Range) -> u32
 }
 
 /// The graph of a range: the nodes that are reached from its entry, in the order of their labels.
-/// None where it has more than `most` labels and statements: once it does, what was made is let go.
-/// One `reach` serves all ranges of a program, since only what was reached is cleared.
+/// None where it has more than `most` labels and statements: as soon as it has, what was made is
+/// dropped. One `reach` serves all ranges of a program, since only what was reached is cleared.
 pub fn lower_within(
     alloc: Global,
     reach: &mut Reach,

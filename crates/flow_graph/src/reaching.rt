@@ -58,7 +58,7 @@ fn visit_arms(reach: &mut Reach, arms: &[Tree]) -> Result<(), NoMemory>
     Ok(())
 }
 
-/// Adds the node at a label, and the labels to which it jumps, and tells how many statements its
+/// Adds the node at a label, and the labels to which it jumps, and answers how many statements its
 /// tree has.
 fn visit_node(
     alloc: Global,
@@ -97,9 +97,9 @@ fn visit_node(
     }
 }
 
-/// Makes these the labels that are reached in the range from this one, and adds their nodes, in the
-/// order in which they are come to; true then. Once they have more than so many labels and
-/// statements it gives up: false then.
+/// Sets `reach` to the labels that are reached in the range from this one, and adds their nodes, in
+/// the order in which it comes to them; true then. As soon as they have more than so many labels
+/// and statements it gives up: false then.
 pub fn reach_from(
     alloc: Global,
     reach: &mut Reach,

@@ -48,10 +48,10 @@ fn placed(alloc: Global, text: &str) -> Result<Vec<Placed>, NoMemory> {
     Ok(bytes)
 }
 
-// How many spaces stand before what is printed.
+// How many spaces come before what is printed.
 const MARGIN: usize = 7;
 
-// The tokens as they are printed, behind the number of those that were read.
+// The tokens as they are printed, after the number of those that were read.
 fn line_of(alloc: Global, next: usize, tokens: Items<TokenKind>) -> Result<Text, NoMemory> {
     let printed = print_units(alloc, &[PrintUnit { column: 8, tokens }])?;
     let printed = printed.as_slice();
@@ -219,10 +219,10 @@ const CONDS: [(&str, &str); 16] = [
     // a NOT before a relation isn't carried on, and the name of a level 88 changes nothing
     ("NOT PAY = 1 OR 2", "6 NOT (PAY = 1) OR PAY = 2"),
     ("PAY = 1 OR RICH OR 2", "7 (PAY = 1 OR RICH) OR PAY = 2"),
-    // a NOT that isn't the condition's own stands behind it
+    // a NOT that isn't the condition's own comes after it
     ("PAY > TAX NOT AT END", "3 PAY > TAX"),
     ("AGE OF NEW IS NOT NUMERIC", "6 AGE OF NEW NOT NUMERIC"),
-    // faults of syntax, at the first token that can't stand there, or at the end
+    // faults of syntax, at the first token that can't come there, or at the end
     ("PAY =\nOR 1", "Syntax(2)"),
     ("PAY = 1 AND\n(TAX = 2", "Syntax(2)"),
     ("PAY = 1 OR NOT\n2\nDISPLAY", "Syntax(3)"),

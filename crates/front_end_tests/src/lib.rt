@@ -1,7 +1,8 @@
-//! Tests of the crates that read, print, copy and generate, and of numbers: what no clause says.
+//! Tests of the crates that read, print, copy and generate, and of numbers: of what no clause of a
+//! contract says.
 //!
-//! They stand here, over the crates as these are, since a crate with tests of its own is proved
-//! twice. A module names the part that it tests.
+//! They are here, over the finished crates, since a crate with tests of its own is proved twice. A
+//! module names the part that it tests.
 #![tactic(auto)]
 
 #[cfg(test)]

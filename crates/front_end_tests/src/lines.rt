@@ -129,7 +129,7 @@ fn lines(rt: HostRuntime) -> Result<(), Fail> {
     Ok(())
 }
 
-/// 5,000 lines of 80 bytes, which a body would refuse that gives up past some number.
+/// 5,000 lines of 80 bytes, which code that gives up past some number would refuse.
 #[test]
 fn unfolds_a_large_source(rt: HostRuntime) -> Result<(), Fail> {
     let line =

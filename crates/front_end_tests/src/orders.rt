@@ -1,4 +1,4 @@
-//! A small grammar that is read, and the parts of one token.
+//! Reads a small grammar, and the parts of one token.
 
 use cob_base::{Boxed, Text, Word};
 use cob_tree::{Digits, Number};
@@ -15,7 +15,7 @@ fn text_of(alloc: Global, bytes: &[u8]) -> Result<Text, Fail> {
     })
 }
 
-/// What a piece of a text without spaces is.
+/// The kind of token that a piece of a text without spaces is.
 fn kind_of(alloc: Global, piece: &str) -> Result<TokenKind, Fail> {
     let bytes = piece.as_bytes();
     if bytes.iter().all(|b| b.is_ascii_digit()) {
@@ -90,7 +90,7 @@ fn reads_the_small_grammar(rt: HostRuntime) -> Result<(), Fail> {
         ("SHOW 1\nSHOW", "Stop(Syntax, 2)"),
         ("show 1", "Stop(Syntax, 1)"),
         ("SHOW 12 .", "Stop(Syntax, 1)"),
-        // a loop that carries a value, grouped to the left
+        // a loop that passes a value on, grouped to the left
         ("SHOW 9 - 5 - 1 .", "show 3; "),
         ("SHOW 9 - ( 5 - 1 ) 2 .", "show 5 2; "),
         ("SHOW 9 -\n- 1 .", "Stop(Syntax, 2)"),
@@ -122,7 +122,7 @@ fn reads_the_small_grammar(rt: HostRuntime) -> Result<(), Fail> {
         ),
         ("REPEAT REPEAT\nREPEAT GO A .", "Stop(Nesting, 2)"),
         ("SHOW 1\nEND-REPEAT .", "Stop(Syntax, 2)"),
-        // nothing behind the end
+        // nothing after the end
         ("SHOW 1 .\nGO A .", "Stop(Syntax, 2)"),
     ] {
         let answer = answer_of(rt.alloc(), "A B", text)?;
@@ -174,8 +174,8 @@ const THIRD: Position = Position { index: 2, line: 3 };
 
 const FOURTH: Position = Position { index: 3, line: 3 };
 
-// A fault that is noted, and the first one then: the first in the order of tokens counts, and at one
-// token the first kind.
+// Two faults that are noted, and the one that is kept: the first in the order of tokens counts, and
+// at one token the first kind.
 const NOTES: [(NameKind, Position, NameKind, Position); 5] = [
     (NameKind::Value, FOURTH, NameKind::Value, FOURTH),
     (NameKind::Usage, THIRD, NameKind::Usage, THIRD),

@@ -1,4 +1,4 @@
-//! Pictures and what they are read to.
+//! Pictures and what is read of them.
 
 use cob_tree::Picture;
 use picture_data::{PictureFault, read_picture};

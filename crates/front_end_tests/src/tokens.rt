@@ -1,4 +1,4 @@
-//! Texts and their tokens, by the rules of the tokens.
+//! Texts and their tokens, by the rules on tokens.
 
 use cob_base::{Copied, Text};
 use cobol_lex::{LexError, Token, TokenKind, tokens};
@@ -7,7 +7,8 @@ use std::alloc::Global;
 use std::process::Abort;
 use std::test::Fail;
 
-/// The text on the lines that its ends of line give, or on one line each where it is in parts.
+/// The text with its lines: those that its line ends give, or one for each part where it is in
+/// several parts.
 fn placed(alloc: Global, parts: &[&[u8]]) -> Result<Vec<Placed>, Fail> {
     let mut text = Vec::new(alloc);
     let mut line = 1u32;
@@ -29,7 +30,7 @@ fn show(shown: &mut Text, before: &[u8], bytes: &[u8]) -> Result<(), Fail> {
     Ok(())
 }
 
-/// The tokens as text, each behind a `|`, with its line.
+/// The tokens as text, each after a `|`, with its line.
 fn shown(alloc: Global, tokens: &[Token]) -> Result<Text, Fail> {
     let mut all = Text::new(alloc);
     for token in tokens {
@@ -189,7 +190,7 @@ fn measures_literals(rt: HostRuntime) -> Result<(), Fail> {
     expect(&rt, alloc, &[longer.as_slice()], b"BadWord(1)")
 }
 
-/// 400 KB of text, which a body would refuse that gives up past some number.
+/// 400 KB of text, which code that gives up past some number would refuse.
 #[test]
 fn reads_a_large_text(rt: HostRuntime) -> Result<(), Fail> {
     let alloc = rt.alloc();

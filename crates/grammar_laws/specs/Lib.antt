@@ -4,7 +4,7 @@ pub mod form_results
 -- paragraphs that are there, numbers that are numbers, and lists that aren't empty.
 pub mod well_scoped
 -- What else the grammar gives where no fault is noted: statements count by whole numbers, entries
--- stand with what they ask, headers tell all paragraphs, and both readings of the divisions
+-- go with what they ask, headers tell all paragraphs, and both readings of the divisions
 -- before the PROCEDURE DIVISION take the same tokens.
 pub mod whole_counts
 -- No token that statements take is a period, so that one ends each sentence.

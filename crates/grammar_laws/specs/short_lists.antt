@@ -2,5 +2,5 @@
 pub mod Paragraph
 -- What a form gives of few tokens.
 pub mod Giving
--- Programs in which EXIT without a further word stands alone in its sentences, as it is read.
+-- Programs in which EXIT without a further word is alone in its sentences, as it is read.
 pub mod lone_exits

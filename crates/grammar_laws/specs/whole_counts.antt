@@ -4,7 +4,7 @@ pub mod whole_stmts
 pub mod whole_entries
 -- The whole PROCEDURE DIVISION counts by whole numbers, over the names of a program.
 pub mod whole_division
--- Entries that break no rule name files and items that are there, and stand with what they ask.
+-- Entries that break no rule name files and items that are there, and go with what they ask.
 pub mod entry_bounds
 -- The paragraphs that headers tell are those that the grammar reads.
 pub mod header_counts

@@ -3,8 +3,8 @@
 //!
 //! `well_scoped` says that what they name is there, `whole_counts` that they count by whole
 //! numbers, `short_lists` that lists are no longer than their tokens, and `no_periods` that no
-//! statement takes a period. `form_results` has what a form gives, by which the others are written
-//! as the grammar is.
+//! statement takes a period. `form_results` has what a form gives; with it the others follow the
+//! forms of the grammar.
 #![tactic(auto)]
 
 pub mod form_results;

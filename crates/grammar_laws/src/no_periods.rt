@@ -1,4 +1,5 @@
-//! No token that statements take is a period, so that one ends each sentence. Nothing here runs.
+//! No token that statements take is a period, so that a period ends each sentence. Nothing here
+//! runs.
 
 ghost use Rattle.grammar_laws.specs.no_periods.Laws.{StatementsTakeNoPeriod};
 

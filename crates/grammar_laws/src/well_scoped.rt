@@ -1,10 +1,10 @@
 //! What each part of the grammar gives where no fault of a name is noted: items, files and
-//! paragraphs that are there, numbers that are numbers, and lists that aren't empty.
+//! paragraphs that are there, valid numbers, and lists that aren't empty.
 //!
 //! Begin with `specs/well_scoped/named_stmts/Parts.antt`, which says what the open forms of
-//! statements are to give; `named_exprs` says it of operands and conditions, and `named_division`
-//! of the whole PROCEDURE DIVISION. Hold `specs/well_scoped/named_entries/Entries.antt` and
-//! `specs/well_scoped/named_data/Drafts.antt` against what stands before it. Nothing here runs.
+//! statements have to give; `named_exprs` says it of operands and conditions, and `named_division`
+//! of the whole PROCEDURE DIVISION. `specs/well_scoped/named_entries/Entries.antt` and
+//! `specs/well_scoped/named_data/Drafts.antt` treat what comes before it. Nothing here runs.
 
 pub mod named_data;
 pub mod named_division;

@@ -1,11 +1,11 @@
 //! What else the grammar gives where no fault is noted: statements count by whole numbers, entries
-//! stand with what they ask, headers tell all paragraphs, and both readings of the divisions before
+//! have what they need, headers declare all paragraphs, and both readings of the divisions before
 //! the PROCEDURE DIVISION take the same tokens.
 //!
 //! Begin with `specs/whole_counts/whole_stmts/Parts.antt` and
-//! `specs/whole_counts/whole_entries/Fitting.antt`. Hold
-//! `specs/whole_counts/entry_bounds/Bounds.antt` against the rules of `declaration_checks`, and
-//! `specs/whole_counts/term_counts/Count.antt` against the limits in docs/LANGUAGE.md. Nothing here
+//! `specs/whole_counts/whole_entries/Fitting.antt`. `specs/whole_counts/entry_bounds/Bounds.antt`
+//! is to be compared with the rules of `declaration_checks`, and
+//! `specs/whole_counts/term_counts/Count.antt` with the limits in docs/LANGUAGE.md. Nothing here
 //! runs.
 
 pub mod entry_bounds;

@@ -10,13 +10,14 @@ use Rattle.graph_rewriting.specs.Rewriting.{bare}
 use Rattle.branch_tree.specs.declared.tree.Tree as code
 use Rattle.graph_rewriting.specs.declared.kept.Kept.{Kept}
 
--- in the slot stands a node with this label, this tree and this count
+-- in the slot there is a node with this label, this tree and this count
 pub record Stands (slots : Slab Kept) (label : Label) (key : ℕ) (tree : Tree) (count : ℕ)
     : Type 0 where
   pub kept : Kept
   pub here : get slots key ≡ Some kept
   pub label_is : kept.node.label ≡ label
   pub tree_is : seen_tree kept.node.tree ≡ tree
+  -- so many leaves are counted to it
   pub count_is : kept.incoming ≡ count
 
 -- each key leads to a node with its label, with the tree and the count of that label
@@ -40,24 +41,27 @@ Counts comes more keys old new = (trees : Label → Tree) (counts : Label → �
 abbrev pub once_at : Label → Label → ℕ
 once_at label l = if label == l then 1 else 0
 
--- in one slot another node stands
+-- in one slot there is another node
 pub record Rewrites (key : ℕ) (before after : Kept) (old new : Slab Kept) : Type 0 where
+  -- this node was in the slot
   pub had : get old key ≡ Some before
+  -- that node is in it now
   pub has : get new key ≡ Some after
+  -- every other slot is the same
   pub others : (other : ℕ) → other ≢ key → get new other ≡ get old other
 
 -- with another tree
 abbrev pub Retrees : Kept → Kept → Type 0
 Retrees before after = (after.node.label ≡ before.node.label) × (after.incoming ≡ before.incoming)
 
--- the tree comes out, and a bare one stands there; or the slot is empty
+-- the tree comes out, and a bare one is there; or the slot is empty
 abbrev pub TakesOut : Option code.Tree → ℕ → Slab Kept → Slab Kept → Type 0
 TakesOut None key old new = (get old key ≡ None) × (new ≡ old)
 TakesOut (Some t) key old new = (before : Kept) × (after : Kept)
     × Rewrites key before after old new × Retrees before after × (t ≡ before.node.tree)
     × (seen_tree after.node.tree ≡ bare)
 
--- the tree stands in the slot, where it isn't empty
+-- the tree is in the slot, where it isn't empty
 abbrev pub PutsIn : code.Tree → ℕ → Slab Kept → Slab Kept → Type 0
 PutsIn t key old new = (before : Kept) → get old key ≡ Some before →
     (after : Kept) × Rewrites key before after old new × Retrees before after

@@ -21,20 +21,29 @@ pub record AddsBare (label : Label) (keys : BTreeMap ℕ ℕ) (old : Slab Kept)
   pub kept : Kept
   pub label_is : kept.node.label ≡ label
   pub tree_is : seen_tree kept.node.tree ≡ bare
+  -- no leaf is counted to it
   pub count_is : kept.incoming ≡ 0
+  -- the slot was empty
   pub vacant : get old key ≡ None
+  -- it has the node now
   pub slots : slab.Updates old new key (Some kept)
+  -- the label has the slot's key
   pub entries : others.entries ≡ insert_entry nat_cmp keys.entries label key
+  -- and every other label the key that it had
   pub keys_are : Updates nat_cmp keys others label (Some key)
+  -- the labels rise
   pub ordered : IsOrdered nat_cmp others
 
 -- each label of these nodes leads to a bare tree
 pub record Emptied (nodes : List Node) (keys : BTreeMap ℕ ℕ) (slots : Slab Kept) : Type 0 where
+  -- there is a key for the label of each node
   pub labels : keys_of keys.entries ≡ labels_of nodes
+  -- the labels rise
   pub ordered : IsOrdered nat_cmp keys
+  -- each key leads to a bare tree
   pub holds : Holds keys slots (λ label. bare) (λ label. 0)
 
--- the tree stands at the label, and its leaves are counted
+-- the tree is at the label, and its leaves are counted
 abbrev pub FillsAt : Label → Tree → BTreeMap ℕ ℕ → Slab Kept → Slab Kept → Type 0
 FillsAt label t keys old new = (nodes : List Node) → has_node nodes label ≡ true →
     keys_of keys.entries ≡ labels_of nodes →
@@ -44,8 +53,11 @@ FillsAt label t keys old new = (nodes : List Node) → has_node nodes label ≡ 
 
 -- each label of these nodes leads to its tree, with the count of its leaves as far as it goes
 pub record Filled (nodes : List Node) (keys : BTreeMap ℕ ℕ) (slots : Slab Kept) : Type 0 where
+  -- there is a key for the label of each node
   pub labels : keys_of keys.entries ≡ labels_of nodes
+  -- the labels rise
   pub ordered : IsOrdered nat_cmp keys
+  -- each key leads to the label's tree and count
   pub holds : Holds keys slots (tree_in nodes) (λ label. turned true (all_leaves_to label nodes) 0)
 
 -- no count is the type's last number

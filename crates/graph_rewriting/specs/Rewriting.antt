@@ -16,10 +16,14 @@ use Rattle.branch_tree.specs.declared.tree.Tree as code_tree
 -- its labels rise, its entry and each label that a leaf jumps to are labels of nodes, and the
 -- leaves to a label can be counted
 pub record IsSound (graph : Graph) : Type 0 where
+  -- the labels rise
   pub rising : Rising graph.nodes
+  -- the entry is a label of a node
   pub entry : has_node graph.nodes graph.entry ≡ true
+  -- each label that a leaf jumps to is one of a node
   pub closed : (l : Label) → is_above (all_leaves_to l graph.nodes) ≡ true →
       has_node graph.nodes l ≡ true
+  -- the leaves to a label are fewer than 2^32
   pub few : (l : Label) → all_leaves_to l graph.nodes < 2 ^ 32
 
 -- the node at the label, or there is none
@@ -34,7 +38,9 @@ bare = tree none Dead
 
 -- the tree's leaves can be counted beside those of the nodes, and jump to nodes
 pub record Fits (t : Tree) (nodes : List Node) : Type 0 where
+  -- with those of the tree they are fewer than 2^32
   pub few : (l : Label) → leaves_to l t + all_leaves_to l nodes < 2 ^ 32
+  -- each label that its leaves jump to is one of a node
   pub closed : (l : Label) → is_above (leaves_to l t) ≡ true → has_node nodes l ≡ true
 
 -- the nodes are these, and all else is as it was
@@ -43,7 +49,7 @@ pub record WithNodes (nodes : List Node) (old new : Held) : Type 0 where
   pub entry_stays : new.entry ≡ old.entry
   pub added_stays : new.added ≡ old.added
 
--- the tree at the label comes out, and a bare one stands there; or there is no such node
+-- the tree at the label comes out, and a bare one is there; or there is no such node
 abbrev pub Takes : Option code_tree.Tree → Label → Held → Held → Type 0
 Takes None label old new = (has_node (seen_nodes old.nodes) label ≡ false) × (new ≡ old)
 Takes (Some t) label old new = (has_node (seen_nodes old.nodes) label ≡ true)

@@ -38,7 +38,9 @@ held_of work = record {
 -- The nodes are those that the keys lead to, the counts are those of their leaves, and the graph is
 -- sound.
 pub record IsWhole (work : Inside) : Type 0 where
+  -- the labels rise
   pub ordered : IsOrdered nat_cmp work.keys
+  -- each key leads to the node of its label, with the count of the leaves to it
   pub holds : Holds work.keys work.slots
       (tree_in (seen_nodes (nodes_by work.slots work.keys.entries)))
       (λ label. all_leaves_to label (seen_nodes (nodes_by work.slots work.keys.entries)))
@@ -49,8 +51,11 @@ pub record JumpsFrom (label : Label) (keys : BTreeMap ℕ ℕ) (slots : Slab Kep
     : Type 0 where
   pub key : ℕ
   pub kept : Kept
+  -- the label has this key
   pub led : map.get nat_cmp keys from ≡ Some key
+  -- which leads to this node
   pub here : get slots key ≡ Some kept
+  -- a leaf of the node jumps to the label
   pub jumps : is_above (leaves_to label (seen_tree kept.node.tree)) ≡ true
 
 -- such a label, or there is no such leaf

@@ -10,7 +10,8 @@ use branch_tree::{End, Label, Tree};
 use slab::Slab;
 use std::collections::BTreeMap;
 
-/// One leaf more or less that jumps to the node, of the node with the holder's key.
+/// Counts a leaf more or less that jumps to the node; the leaf is of the node with the holder's
+/// key.
 fn turn(kept: &mut Kept, holder: usize, comes: bool)
     ensures node { kept.new.node ≡ kept.old.node }
     ensures count { kept.new.incoming ≡ turned comes 1 kept.old.incoming }
@@ -24,7 +25,7 @@ fn turn(kept: &mut Kept, holder: usize, comes: bool)
     }
 }
 
-/// One leaf more or less that jumps to the label. A label without a node is passed over.
+/// Counts a leaf more or less that jumps to the label. A label without a node is skipped.
 fn count_leaf(
     keys: &BTreeMap<Label, usize>,
     slots: &mut Slab<Kept>,
@@ -43,7 +44,7 @@ fn count_leaf(
     }
 }
 
-/// The leaves of a tree more or less, of the node with the holder's key.
+/// Counts the leaves of a tree, of the node with the holder's key, more or less.
 #[cycle(counts)]
 pub fn count_tree(
     keys: &BTreeMap<Label, usize>,

@@ -1,18 +1,18 @@
-//! What lets parts of a graph go that is rewritten.
+//! Functions that drop parts of a graph that is rewritten.
 
 use crate::kept::Kept;
 use crate::work::Work;
 use slab::Slab;
 use std::alloc::AllocFailed;
 
-/// Lets a node go.
+/// Drops a node.
 pub fn drop_kept(_kept: Kept) {}
 
-/// Lets a node go that found no slot.
+/// Drops a node that found no slot.
 pub fn drop_failed(_failed: AllocFailed<Kept>) {}
 
-/// Lets slots go.
+/// Drops slots.
 pub fn drop_slots(_slots: Slab<Kept>) {}
 
-/// Lets a graph go that was rewritten.
+/// Drops a graph that was rewritten.
 pub fn drop_work(_work: Work) {}

@@ -1,4 +1,4 @@
-//! The nodes of a graph into slots, and back.
+//! Puts the nodes of a graph into slots, and takes them back.
 
 ghost use Rattle.std.specs.Prelude.{◌≡◌, [], OnOk, IfOk};
 ghost use Rattle.std.specs.Bool.{OnTrue};
@@ -20,7 +20,7 @@ use slab::Slab;
 use std::alloc::Global;
 use std::collections::BTreeMap;
 
-/// One more slot, with a bare tree at the label.
+/// Adds a slot, with a bare tree at the label.
 fn add_bare(
     alloc: Global,
     keys: &mut BTreeMap<Label, usize>,
@@ -93,7 +93,7 @@ pub fn fill(keys: &BTreeMap<Label, usize>, slots: &mut Slab<Kept>, nodes: Vec<No
     }
 }
 
-/// Whether no count is the type's last number, past which none can be told.
+/// Whether no count is the largest `u32`, above which nothing can be counted.
 pub fn none_full(keys: &BTreeMap<Label, usize>, slots: &Slab<Kept>) -> bool
     ensures { OnTrue result (NoneFull slots.now keys.now.entries) }
 {
@@ -110,7 +110,7 @@ pub fn none_full(keys: &BTreeMap<Label, usize>, slots: &Slab<Kept>) -> bool
     true
 }
 
-/// The nodes that the keys lead to.
+/// The nodes in the slots of these keys.
 pub fn nodes_out(
     alloc: Global,
     keys: BTreeMap<Label, usize>,

@@ -1,4 +1,4 @@
-//! Nodes that have a leaf that jumps to a label.
+//! Finds nodes with a leaf that jumps to a label.
 
 ghost use Rattle.std.specs.Prelude.{◌≡◌, length, IfOk, IfSome};
 ghost use Rattle.std.specs.Map.{keys_of};
@@ -40,7 +40,7 @@ fn source_at(
     }
 }
 
-/// Where one leaf jumps to the label, the label of its node.
+/// The label of the node whose leaf jumps to the label, where there is only one such leaf.
 fn likely_source(keys: &BTreeMap<Label, usize>, slots: &Slab<Kept>, label: Label) -> Option<Label>
     ensures { IfSome result (JumpsFrom label keys.now slots.now) }
 {

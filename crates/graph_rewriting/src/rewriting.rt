@@ -17,7 +17,7 @@ use cob_base::NoMemory;
 use std::alloc::Global;
 
 impl Work {
-    /// Takes the tree at the label out. A bare one stands there meanwhile.
+    /// Takes out the tree at the label, and leaves a bare one there.
     pub fn take(&mut self, alloc: Global, label: Label) -> Option<Tree>
         ensures { Takes result label self.old self.new }
     {
@@ -36,7 +36,7 @@ impl Work {
         }
     }
 
-    /// Puts the tree at the label, where a bare one stands.
+    /// Puts the tree at the label, which has a bare one.
     pub fn put(&mut self, label: Label, tree: Tree)
         requires has { has_node (seen_nodes self.old.nodes) label ≡ true }
         requires bare { tree_in (seen_nodes self.old.nodes) label ≡ bare }
@@ -54,7 +54,7 @@ impl Work {
         }
     }
 
-    /// Takes away the node at the label, whose tree is bare, and to which no leaf jumps.
+    /// Removes the node at the label, whose tree is bare, and to which no leaf jumps.
     pub fn remove(&mut self, label: Label)
         requires entry { label ≢ self.old.entry }
         requires has { has_node (seen_nodes self.old.nodes) label ≡ true }
@@ -82,7 +82,7 @@ impl Work {
         }
     }
 
-    /// One added item more, in room that is there.
+    /// Adds an added item, for which there is room.
     pub fn push_added(&mut self, kind: Added)
         requires room { vec_len self.old.added < vec_capacity self.old.added }
         ensures entry { self.new.entry ≡ self.old.entry }

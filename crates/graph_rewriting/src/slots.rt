@@ -1,4 +1,4 @@
-//! Trees that come into slots and go out of them.
+//! Puts trees into slots and takes them out.
 
 ghost use Rattle.std.specs.Prelude.{◌≡◌};
 ghost use Rattle.branch_tree.specs.Tree.{seen_tree};
@@ -12,7 +12,7 @@ use std::alloc::Global;
 use std::collections::VecDeque;
 use std::mem;
 
-/// A tree without a piece, which is dead.
+/// A tree without a piece and with a dead end.
 pub fn bare_tree(alloc: Global) -> Tree
     ensures { seen_tree result ≡ bare }
 {
@@ -22,7 +22,7 @@ pub fn bare_tree(alloc: Global) -> Tree
     }
 }
 
-/// The tree in the slot, in whose place a bare one stands.
+/// Takes out the tree in the slot, and leaves a bare one there.
 pub fn take_out(alloc: Global, slots: &mut Slab<Kept>, key: usize) -> Option<Tree>
     ensures { TakesOut result key slots.old slots.new }
 {
@@ -32,7 +32,7 @@ pub fn take_out(alloc: Global, slots: &mut Slab<Kept>, key: usize) -> Option<Tre
     }
 }
 
-/// Puts the tree into the slot, and drops the one that stood there.
+/// Puts the tree into the slot, and drops the one that was there.
 pub fn put_in(slots: &mut Slab<Kept>, key: usize, tree: Tree)
     ensures { PutsIn tree key slots.old slots.new }
 {

@@ -39,14 +39,14 @@ impl Model for Work {
 }
 
 impl Work {
-    /// What holds of each graph that is rewritten.
+    /// States, without any effect, what holds of each graph that is rewritten.
     pub fn sound(&self)
         ensures { IsSound (seen_work self.now) }
     {
         let _ = &self.entry;
     }
 
-    /// How many leaves jump to the label.
+    /// How many leaves of the graph jump to the label.
     pub fn incoming(&self, label: Label) -> u32
         ensures { result ≡ all_leaves_to label (seen_work self.now).nodes }
     {

@@ -1,4 +1,4 @@
-//! A graph that is to be rewritten, and that was.
+//! Graphs before and after they are rewritten.
 
 ghost use Rattle.std.specs.Prelude.{◌≡◌, IfOk};
 ghost use Rattle.control_flow_theory.specs.structuring.Closes.{IsClosed};

@@ -12,7 +12,7 @@ use std::test::Fail;
 
 const FAILED: u8 = 100;
 
-// The files or the table are not as many as wanted.
+// The status where the number of files or of rows in the table is wrong.
 const LOST: u8 = 200;
 
 fn text(alloc: Global, bytes: &[u8]) -> Result<Text, AllocError> {
@@ -42,7 +42,7 @@ fn entries(alloc: Global, assigns: &[&[u8]]) -> Result<Vec<FileEntry>, AllocErro
     Ok(files)
 }
 
-// A device without files, whose call of that number fails; 0 is none.
+// A device without files, of which the call with that number fails; 0 is none.
 fn device(alloc: Global, name: &[u8], failing: u64) -> Result<MemDevice, AllocError> {
     let mut numbers = Vec::new(alloc);
     numbers.push(failing)?;
@@ -231,7 +231,7 @@ fn each_status_comes(rt: HostRuntime) -> Result<(), Fail> {
     Ok(())
 }
 
-// What six calls come to, of which the device fails the one of that number.
+// What six calls come to, where the device fails in the one with that number.
 fn walk(alloc: Global, failing: u64) -> Result<[u8; 7], NoMemory> {
     let bench = bench_of(alloc, &[b"TAPE", b"DISK", b"LAST"], failing)?;
     let mut d = Desk::new(alloc, bench, &[b"A", b"TAPE:A"])?;

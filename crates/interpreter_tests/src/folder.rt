@@ -1,4 +1,4 @@
-//! One walk through a real folder.
+//! A test in a real folder.
 
 use cob_tree::How;
 use file_model::folder::FolderDevice;
@@ -8,7 +8,7 @@ use std::test::Fail;
 
 const NAME: &str = "folder-device-example.txt";
 
-// Everything that a program does with a file: written, added to, read, put back, and read again.
+// All operations on a file: it is written, extended, read, rewritten, and read again.
 #[test]
 fn a_file_is_written_read_and_put_back(rt: HostRuntime) -> Result<(), Fail> {
     let file = NAME.as_bytes();

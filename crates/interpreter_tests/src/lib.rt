@@ -1,8 +1,8 @@
-//! Tests of what runs: files at a desk, the folder's device, plain programs, places by numbers, and
-//! whole sources; and of what is restructured: that results are structured, and trails of faults.
+//! Tests of runs: operations on files, the folder's device, plain programs, places by numbers, and
+//! whole sources; and of restructuring: that results are structured, and trails of faults.
 //!
-//! They stand here, over the crates as these are, since a crate with tests of its own is proved
-//! twice. A module names the part that it tests.
+//! They are here, over the finished crates, since a crate with tests of its own is proved twice. A
+//! module names the part that it tests.
 #![tactic(auto)]
 
 #[cfg(test)]

@@ -1,4 +1,4 @@
-//! Places by numbers alone beside such by items, and what is shown of them.
+//! Places by numbers alone and places by items, and what they show.
 
 use crate::sources::word_of;
 use cob_base::MemSink;
@@ -34,7 +34,7 @@ const DATA: &str = "       IDENTIFICATION DIVISION.
 
 // The statements on lines of their own, what they show, and how they end.
 const CASES: [(&str, &str, &str); 32] = [
-    // one dimension: the first, the last, and those beside them
+    // one dimension: the first, the last, and those just outside
     ("DISPLAY E (1) E (4).", "AD\n", "stopped"),
     ("DISPLAY E (0).", "", "out of range"),
     ("DISPLAY E (5).", "", "out of range"),
@@ -81,7 +81,7 @@ const CASES: [(&str, &str, &str); 32] = [
         "111413212223\n",
         "stopped",
     ),
-    // an item's value beside numbers
+    // an item's value together with numbers
     ("DISPLAY C (I, 3) C (2, 3) C (2, I).", "232322\n", "stopped"),
     (
         "DISPLAY E (I) E (I + 1) E (I - 1) E (2).",

@@ -1,4 +1,4 @@
-//! Runs of plain programs, so many steps each.
+//! Runs of plain programs, each for a number of steps.
 
 use cob_base::{Items, NoMemory, Text, Word};
 use cob_tree::{Control, FlowFault, Operand, Paragraph, Program, Sentence, Stmt};
@@ -21,8 +21,8 @@ fn number(digit: u8) -> u32 {
     u32::from(digit.saturating_sub(b'0'))
 }
 
-/// A letter is displayed, `>n` goes to a paragraph, `(nm` performs two and those between, `.` stops,
-/// and `,` goes on.
+/// A letter is displayed, `>n` goes to a paragraph, `(nm` performs two and those between, `.`
+/// stops, and `,` goes on.
 fn statement(alloc: Global, what: &[u8]) -> Result<Option<Stmt>, NoMemory> {
     Ok(match what {
         [b'>', to, ..] => Some(Stmt::Go(number(*to))),
@@ -94,7 +94,7 @@ fn after(alloc: Global, text: &str, steps: u32) -> Result<PlainState, Fail> {
     Ok(state?)
 }
 
-/// How a run stands: `-` where it goes on, `S` where it stopped, and the fault with its paragraph.
+/// The state of a run: `-` where it goes on, `S` where it stopped, or the fault with its paragraph.
 fn standing(state: &PlainState) -> (u8, u32) {
     match state.over {
         None => (b'-', 0),
@@ -107,7 +107,7 @@ fn standing(state: &PlainState) -> (u8, u32) {
 #[test]
 fn runs_as_said(rt: HostRuntime) -> Result<(), Fail> {
     for (text, steps, shown, paragraph, pending, over) in [
-        // it falls through, and stops past the last paragraph
+        // it falls through, and stops after the last paragraph
         ("A  /B  ", 2, "A", 0, 0, (b'-', 0)),
         ("A  /B  ", 3, "A", 1, 0, (b'-', 0)),
         ("A  /B  ", 6, "AB", 1, 0, (b'S', 0)),

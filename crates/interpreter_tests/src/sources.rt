@@ -83,7 +83,7 @@ const READING: &str = "       IDENTIFICATION DIVISION.
        A. OPEN INPUT F.
 ";
 
-/// What an answer is, in a word.
+/// A word for an answer.
 pub fn word_of(came: &Came) -> &'static str {
     match came {
         Came::Ran(_, Ran::Ended(Ending::Stopped)) => "stopped",

@@ -1,4 +1,4 @@
-//! Whether programs are structured: what is written is, and sources with jumps aren't.
+//! Whether programs are structured: results are, and sources with jumps aren't.
 
 use cobol_read::read;
 use restructure_core::restructure;
@@ -6,7 +6,7 @@ use std::alloc::Global;
 use std::test::Fail;
 use struct_form::is_structured;
 
-/// What stands before the paragraphs of a program.
+/// What comes before the paragraphs of a program.
 const HEAD: &str = "       IDENTIFICATION DIVISION.
        PROGRAM-ID. T.
        DATA DIVISION.
@@ -52,7 +52,7 @@ const SOURCES: [(&str, bool); 14] = [
     ("A. PERFORM B STOP RUN. B. EXIT.", false),
 ];
 
-// Whether what these bytes read to is structured; none where they are no program.
+// Whether the program of these bytes is structured; none where they aren't a program.
 fn structured(alloc: Global, bytes: &[u8]) -> Option<bool> {
     match read(alloc, bytes) {
         Err(refusal) => {

@@ -1,4 +1,4 @@
-//! Trails of faults of flow: each that is found is accepted, and without its last move it isn't.
+//! Trails of faults of flow: each that is found is accepted, and isn't without its last move.
 
 use cob_base::Items;
 use cob_tree::Program;
@@ -8,7 +8,7 @@ use restructure_core::{Refused, restructure};
 use std::alloc::Global;
 use std::test::Fail;
 
-/// What stands before the paragraphs of a program.
+/// What comes before the paragraphs of a program.
 const HEAD: &str = "       IDENTIFICATION DIVISION.
        PROGRAM-ID. T.
        DATA DIVISION.
@@ -23,7 +23,7 @@ const FAULTY: [&str; 6] = [
     "M. PERFORM A. STOP RUN. A. PERFORM B 2 TIMES. B. PERFORM A.",
     "M. PERFORM A THRU C. STOP RUN. A. DISPLAY N. B. PERFORM D.
        C. DISPLAY N. D. GO TO C.",
-    // over a range that returns, and through an arm
+    // over a range that returns, and through an arm of a choice
     "M. PERFORM A THRU B. STOP RUN. A. PERFORM C. IF N = 1 PERFORM D.
        B. EXIT. C. ADD 1 TO N. D. GO TO B.",
     // through a loop
@@ -34,7 +34,7 @@ const FAULTY: [&str; 6] = [
            END-EVALUATE. C. EXIT. D. GO TO A C DEPENDING ON N.",
 ];
 
-// The moves of the last level that has any are one less.
+// Removes the last move of the last level that has any.
 fn shorten(hops: &mut [Hop]) {
     for hop in hops.iter_mut().rev() {
         if hop.moves.pop().is_some() {
@@ -43,7 +43,7 @@ fn shorten(hops: &mut [Hop]) {
     }
 }
 
-// The trail with one move less.
+// The trail without its last move.
 fn shortened(trail: Trail) -> Trail {
     let Trail {
         fault,
@@ -59,7 +59,7 @@ fn shortened(trail: Trail) -> Trail {
     }
 }
 
-// Whether a trail is accepted, and whether it is with one move less.
+// Whether a trail is accepted, and whether it is without its last move.
 fn judged(program: Program, trail: Trail) -> (bool, bool) {
     let whole = check(&program, &trail);
     let trail = shortened(trail);
@@ -69,7 +69,7 @@ fn judged(program: Program, trail: Trail) -> (bool, bool) {
     (whole, short)
 }
 
-// The same of the trail of a source; none where it has none.
+// The same for the trail of a source; none where the source has none.
 fn judged_source(alloc: Global, bytes: &[u8]) -> Option<(bool, bool)> {
     match restructure(alloc, bytes) {
         Err(Refused::Flow(program, trail)) => Some(judged(program, trail)),

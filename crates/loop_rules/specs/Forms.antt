@@ -12,6 +12,7 @@ use Rattle.loop_rules.specs.declared.forms.Turning.{Turning}
 use Rattle.loop_rules.specs.declared.forms.LoopForm.{LoopForm}
 use Rattle.loop_rules.specs.declared.forms.LoopForm.TheVariants as form
 
+-- the form of a loop that is tested after its body or before it
 abbrev pub when_after : Bool → Bool → LoopForm
 when_after true turned = form.After turned
 when_after false turned = form.Before turned
@@ -33,12 +34,13 @@ end_by NoTarget = Dead
 end_by (Only live) = end_at live
 end_by Several = Dead
 
--- the leaf to the one target
+-- the end is a leaf to the one target
 abbrev pub leaf_by : Targets → End → Bool
 leaf_by NoTarget end = false
 leaf_by (Only live) end = is_leaf live end
 leaf_by Several end = false
 
+-- there is no statement
 abbrev pub is_nothing : Stmts → Bool
 is_nothing none = true
 is_nothing (also first others) = false
@@ -52,7 +54,7 @@ abbrev pub way : Bool → Bool → Bool → LoopForm
 way after first second =
     if first then when_after after false else (if second then when_after after true else form.Flag)
 
--- the form of two arms behind a body, which may be empty
+-- the form of two arms after a body, which may be empty
 abbrev pub two_ways : Targets → Label → Bool → Tree → Tree → LoopForm
 two_ways targets label empty one two =
     if empty
@@ -61,6 +63,7 @@ two_ways targets label empty one two =
     else way true (bare_by targets one && bare_by (Only (ToLabel label)) two)
     (bare_by targets two && bare_by (Only (ToLabel label)) one)
 
+-- the form of a loop by a choice with these arms; only with two it has one of its own
 abbrev pub ways : Targets → Label → Bool → Trees → LoopForm
 ways targets label empty no_more = form.Flag
 ways targets label empty (more one no_more) = form.Flag
@@ -73,17 +76,19 @@ formed live form =
     tree (alone (Loop (Until form.after (turned_test form.turned form.test)) (Nested form.body)))
     (end_at live)
 
+-- the loop with its own test, where it has one target and such a form; else the tree as it was
 abbrev pub formed_if : Targets → Option reduced.Form → Tree → Tree
 formed_if NoTarget form t = t
 formed_if (Only live) None t = t
 formed_if (Only live) (Some form) t = formed live form
 formed_if Several form t = t
 
+-- the loop that turns so, over this body
 abbrev pub loop_by : Turning → Tree → Stmt
 loop_by turning body =
     Loop (Until turning.after (turned_test turning.turned (seen_test turning.test)))
     (Nested (stated turning.leaves body))
 
--- the tree as the body of such a loop behind what stands before it, and then the end
+-- the tree as the body of such a loop after what comes before it, and then the end
 abbrev pub looped_by : Turning → Stmts → Tree → End → Tree
 looped_by turning before body end = tree (followed before (alone (loop_by turning body))) end

@@ -12,9 +12,10 @@ use Rattle.branch_tree.specs.Graph.{seen_added}
 use Rattle.branch_tree.specs.declared.graph.Added as code
 use Rattle.loop_rules.specs.Forms.{formed_if, form_for, end_by}
 
--- the loop, what stands behind it, and its added items
+-- the loop, what follows it, and its added items
 pub record Closed : Type 0 where
   pub node : Tree
+  -- what the items that it adds are for
   pub kinds : List Added
 
 -- with one target: a loop with a test of its own, or with a flag
@@ -26,10 +27,12 @@ closed_form label cell t targets None = record {
   kinds = Flag ∷ [];
 }
 
--- by the first form that fits
+-- the node at a label as a loop, by the first form that fits
 abbrev pub closed_live : Label → ℕ → Tree → Targets → Closed
 closed_live label cell t targets = closed_form label cell t targets (form_for label targets t)
 
+-- the node at a label as a loop, by the targets of its other leaves; as it was where they are
+-- several
 abbrev pub closed_by : Label → ℕ → Tree → Targets → Closed
 closed_by label cell t NoTarget = record {
   node = tree (loop_of Endless cell (flat Endless cell label t)) Dead;
@@ -38,13 +41,16 @@ closed_by label cell t NoTarget = record {
 closed_by label cell t (Only live) = closed_live label cell t (Only live)
 closed_by label cell t Several = record { node = t; kinds = [] }
 
+-- the node at a label as a loop
 abbrev pub closed : Label → ℕ → Tree → Closed
 closed label cell t = closed_by label cell t (other_targets label t)
 
+-- the added item as a list
 abbrev pub kinds_of : Option code.Added → List Added
 kinds_of None = []
 kinds_of (Some kind) = seen_added kind ∷ []
 
+-- the tree, with the added item that it brings
 abbrev pub with_kinds : Tree → Option code.Added → Closed
 with_kinds t kind = record { node = t; kinds = kinds_of kind }
 

@@ -20,8 +20,8 @@ use std::collections::VecDeque;
 use std::mem;
 use tree_rules::Targets;
 
-/// How a loop is tested: before or after its body, or by a flag. A test that is turned goes on
-/// where it holds.
+/// How a loop is tested: before or after its body, or by a flag. With a turned test the loop goes
+/// on where it holds.
 #[derive(Clone, Copy)]
 pub enum LoopForm {
     Before { turned: bool },
@@ -29,8 +29,8 @@ pub enum LoopForm {
     Flag,
 }
 
-/// How a loop turns: tested after or before, until the test or until it fails, with what its leaves
-/// are.
+/// How a loop turns: tested after or before, until the test holds or until it fails, with what its
+/// leaves do.
 pub struct Turning {
     pub after: bool,
     pub turned: bool,
@@ -38,7 +38,7 @@ pub struct Turning {
     pub leaves: Leaves,
 }
 
-/// A loop behind the other pieces, in room that is there.
+/// Adds a loop after the other pieces; there is room for it.
 fn put_loop(pieces: &mut VecDeque<Piece>, turning: Turning, body: Tree)
     requires { deque_len pieces.old < deque_capacity pieces.old }
     ensures { seen_body pieces.new.items
@@ -59,7 +59,7 @@ fn put_loop(pieces: &mut VecDeque<Piece>, turning: Turning, body: Tree)
     });
 }
 
-/// The tree as the body of a loop behind these pieces, in room that is there, and then the end.
+/// Makes the tree the body of a loop after these pieces, which have room for it, and sets the end.
 pub fn looped(tree: &mut Tree, before: Vec<Piece>, turning: Turning, end: End)
     requires { vec_len before < vec_capacity before }
     ensures { seen_tree tree.new ≡ looped_by turning (seen_body before.items) (seen_tree tree.old)
@@ -173,7 +173,8 @@ fn form_arms(body: &VecDeque<Piece>, arms: &[Tree], label: Label, live: &Targets
     }
 }
 
-/// The form of the loop on the label, where its live leaves but the jumps to it have such a target.
+/// The form of the loop on the label, where its live leaves, other than the jumps to it, have such
+/// a target.
 pub fn form_of(tree: &Tree, label: Label, live: &Targets) -> LoopForm
     ensures { result ≡ form_at (form_for label (seen_targets live.now) (seen_tree tree.now)) }
 {
@@ -201,6 +202,7 @@ fn arm_of(arms: Items<Tree>, at: usize) -> Tree
     arm
 }
 
+/// The end after a loop whose live leaves have this target.
 pub fn end_of(live: &Targets) -> End
     ensures { seen_end result ≡ end_by (seen_targets live.now) }
 {
@@ -212,8 +214,8 @@ pub fn end_of(live: &Targets) -> End
     }
 }
 
-/// The loop by a test before each turn: the arm that stays is its body. Without memory the tree
-/// stays.
+/// Makes the loop with a test before each turn: the arm that stays is its body. Without memory the
+/// tree stays.
 pub fn close_before(
     tree: &mut Tree,
     turned: bool,
@@ -248,8 +250,8 @@ pub fn close_before(
     Ok(())
 }
 
-/// The loop by a test behind each turn: what stands before the arms is its body. Without memory the
-/// tree stays.
+/// Makes the loop with a test after each turn: what comes before the arms is its body. Without
+/// memory the tree stays.
 pub fn close_after(
     alloc: Global,
     tree: &mut Tree,

@@ -2,8 +2,8 @@
 //! loop, and then that target.
 //!
 //! The first of these forms that fits is taken: endless, where there is no target; tested before;
-//! tested after; and else with a flag, which is cleared where the loop begins. The definition is
-//! that of the theory of control, `close_graph` in
+//! tested after; and otherwise with a flag, which is cleared where the loop begins. The definition
+//! is that of the theory of control, `close_graph` in
 //! `control_flow_theory/specs/graph_rules/Reduced.antt`.
 #![tactic(auto)]
 

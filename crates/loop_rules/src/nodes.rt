@@ -19,7 +19,7 @@ use graph_rewriting::Work;
 use std::alloc::Global;
 use tree_rules::{Targets, other_targets};
 
-/// The loop without an end. Without memory the tree stays.
+/// Makes the loop without an end. Without memory the tree stays.
 fn close_endless(alloc: Global, tree: &mut Tree, label: Label, cell: u32) -> Result<(), NoMemory>
     ensures ok { OnOk result (seen_tree tree.new
         ≡ graph.tree (loop_of Endless cell (flat Endless cell label (seen_tree tree.old)))
@@ -37,7 +37,7 @@ fn close_endless(alloc: Global, tree: &mut Tree, label: Label, cell: u32) -> Res
     Ok(())
 }
 
-/// The loop with a flag, which is cleared before it. Without memory the tree stays.
+/// Makes the loop with a flag, which is cleared before it. Without memory the tree stays.
 fn close_flag(
     alloc: Global,
     tree: &mut Tree,
@@ -62,8 +62,8 @@ fn close_flag(
     Ok(())
 }
 
-/// The loop with its one target, with its added item where it has one. Without memory the tree
-/// stays.
+/// Makes the loop with its one target, and with its added item where it has one. Without memory the
+/// tree stays.
 fn close_live(
     alloc: Global,
     tree: &mut Tree,
@@ -90,7 +90,7 @@ fn close_live(
     }
 }
 
-/// The tree of a node as a loop, with its added item where it has one. Without memory the tree
+/// Makes the tree of a node a loop, with its added item where it has one. Without memory the tree
 /// stays.
 pub fn close_tree(
     alloc: Global,

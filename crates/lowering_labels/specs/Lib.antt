@@ -1,4 +1,4 @@
--- The places of a program, and where a rest of it goes on: the tables that lowering stands on.
+-- The places of a program, and where a rest of it goes on: the tables that lowering uses.
 pub mod points
 -- The trees of a lowered graph.
 pub mod loop_nodes

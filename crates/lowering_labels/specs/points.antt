@@ -2,5 +2,5 @@
 pub mod Layout
 -- where a rest goes on
 pub mod JumpTarget
--- where a range goes on behind a paragraph
+-- where a range goes on after a paragraph
 pub mod FallThrough

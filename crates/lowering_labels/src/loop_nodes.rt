@@ -1,7 +1,7 @@
 //! The trees of a lowered graph.
 //!
-//! Hold them against `build` and `loop_nodes` of `control_flow_theory/specs/lowering/Lower`, one
-//! function for each row.
+//! They are to be compared with `build` and `loop_nodes` of
+//! `control_flow_theory/specs/lowering/Lower`, a function for each row.
 
 mod ends;
 pub mod laws;

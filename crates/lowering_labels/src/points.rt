@@ -1,9 +1,9 @@
-//! The places of a program, and where a rest of it goes on: the tables that lowering stands on.
+//! The places of a program, and where a rest of it goes on: the tables that lowering is based on.
 //!
-//! Hold `layout_of` against the numbering of places, paragraphs and behind each its statements in
-//! text order (`control_flow_theory/specs/lowering/Lowered`), `jump_target_of` against what a
-//! continuation is, and `paragraph_end_target` against the end of a paragraph in a range
-//! (`control_flow_theory/specs/lowering/Lower`). Contracts speak of any numbering that gives the
+//! `layout_of` is to be compared with the numbering of places, paragraphs and after each its
+//! statements in text order (`control_flow_theory/specs/lowering/Lowered`), `jump_target_of` with
+//! what a continuation is, and `paragraph_end_target` with the end of a paragraph in a range
+//! (`control_flow_theory/specs/lowering/Lower`). Contracts are about any numbering that gives the
 //! places of the table, so that those of the theory are among them.
 
 mod fall_through;

@@ -2,8 +2,8 @@
 //! about.
 //!
 //! `specs/statements` says what each simple statement does, and docs/MEANING.md has the same as a
-//! table: hold the one against the other. `plain` has one step of a program of the plain form, as
-//! code for tests, and the laws on when two programs are the same.
+//! table, to be compared with it. `plain` has one step of a program of the plain form, as code for
+//! tests, and the laws on when two programs behave the same.
 #![tactic(auto)]
 
 pub mod plain;

@@ -15,10 +15,12 @@ first_free zero words stem from = from
 first_free (suc room) words stem from =
     if is_taken words stem from then first_free room words stem (suc from) else from
 
--- no more numbers are taken than there are words
+-- the first number from this one on with which the stem is no word; no more numbers are taken than
+-- there are words
 abbrev pub fresh_number : List (List ℕ) → List ℕ → ℕ → ℕ
 fresh_number words stem from = first_free (length words) words stem from
 
+-- the stem with the first number from this one on that isn't taken
 abbrev pub fresh_word : List (List ℕ) → List ℕ → ℕ → FreshWord
 fresh_word words stem from =
     let number = fresh_number words stem from in
@@ -26,7 +28,10 @@ fresh_word words stem from =
 
 -- the least number from this one on that isn't taken
 pub record IsFresh (words : List (List ℕ)) (stem : List ℕ) (from number : ℕ) : Type 0 where
+  -- it isn't below this number
   pub least : from ≤ number
+  -- it isn't taken
   pub free : is_taken words stem number ≡ false
+  -- each number before it is taken
   pub passed : (earlier : ℕ) → from ≤ earlier → earlier < number →
       is_taken words stem earlier ≡ true

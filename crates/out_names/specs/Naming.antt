@@ -8,6 +8,7 @@ use Rattle.out_names.specs.declared.naming.Named.{Named}
 use Rattle.out_names.specs.FreshWords.{fresh_number}
 use Rattle.out_names.specs.Words.{program_words, table_of}
 
+-- the stem of the names of procedures
 abbrev pub procedure_stem : List ℕ
 procedure_stem = codes "RX-PARA-"
 
@@ -16,6 +17,7 @@ abbrev pub either : Option (List ℕ) → Option (List ℕ) → Option (List ℕ
 either None other = other
 either (Some name) other = Some name
 
+-- the label of a paragraph: its name, or else its section's
 abbrev pub label_of : Option Paragraph → Option (List ℕ)
 label_of None = None
 label_of (Some paragraph) = either paragraph.name paragraph.section
@@ -41,7 +43,7 @@ named words None from =
     let number = fresh_number words procedure_stem from in
     record { name = procedure_stem ++ decimal number; next = suc number }
 
--- of the ranges behind these, the next fresh name being looked for from a number on
+-- of the ranges after these, the next fresh name being looked for from a number on
 abbrev pub names_behind :
     List (List ℕ) → List Paragraph → List Range → ℕ → List Range → List (List ℕ)
 names_behind words paragraphs before from [] = []

@@ -1,5 +1,5 @@
 -- The order of procedures. Ranges go by their numbers; `calls` has, for each, the numbers of those
--- that it calls, and `stands` says which stand already.
+-- that it calls, and `stands` says which are placed already.
 use Rattle.std.specs.Prelude.{ℕ, ◌≡◌, ◌<◌, zero, suc, Bool, true, false, not, if◌then◌else◌, ◌==◌, ◌&&◌, ◌||◌, List, [], ◌∷◌, length, replicate, Option, Some, None, slice_index_or, slice_set}
 use Rattle.std.specs.List.{list_any}
 
@@ -7,7 +7,7 @@ use Rattle.std.specs.List.{list_any}
 abbrev pub calls_it : ℕ → List ℕ → Bool
 calls_it number callees = list_any (λ callee. callee == number) callees
 
--- a range that doesn't stand yet calls it
+-- a range that isn't placed yet calls it
 abbrev pub waits : List (List ℕ) → List Bool → ℕ → Bool
 waits [] stands number = false
 waits (callees ∷ calls) [] number = false
@@ -27,12 +27,12 @@ AreWaiting calls stands waiting =
     (number : ℕ) → number < length calls →
     slice_index_or waiting number false ≡ waits calls stands number
 
--- by the flags of what stands and of what waits
+-- by the flags of what is placed and of what waits
 abbrev pub may_stand : List Bool → List Bool → ℕ → Bool
 may_stand stands waiting number =
     not (slice_index_or stands number true) && not (slice_index_or waiting number false)
 
--- it doesn't stand, and all of its callers do
+-- it isn't placed, and all of its callers are
 abbrev pub is_ready : List (List ℕ) → List Bool → ℕ → Bool
 is_ready calls stands number =
     not (slice_index_or stands number true) && not (waits calls stands number)
@@ -44,7 +44,7 @@ first_ready (suc count) calls stands number =
     if is_ready calls stands number then Some number
     else first_ready count calls stands (suc number)
 
--- the next one, and then at most so many in all, always the lowest all of whose callers stand
+-- the next one, and then at most so many in all, always the lowest all of whose callers are placed
 abbrev pub order_from : ℕ → List (List ℕ) → List Bool → Option ℕ → List ℕ
 order_from zero calls stands next = []
 order_from (suc count) calls stands None = []
@@ -52,7 +52,7 @@ order_from (suc count) calls stands (Some number) =
     let after = slice_set stands number true in
     number ∷ order_from count calls after (first_ready (length calls) calls after 0)
 
--- the first one, and then always the lowest all of whose callers stand already
+-- the first one, and then always the lowest all of whose callers are placed already
 abbrev pub order_of : List (List ℕ) → List ℕ
 order_of calls =
     order_from (length calls) calls (replicate (length calls) false) (Some 0)

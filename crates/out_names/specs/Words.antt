@@ -7,9 +7,11 @@ use Rattle.cob_tree.specs.declared.file.FileEntry.{FileEntry}
 use Rattle.cob_tree.specs.declared.program.Paragraph.{Paragraph}
 use Rattle.cob_tree.specs.declared.program.Program.{Program}
 
+-- the names of these files
 abbrev pub file_names : List FileEntry → List (List ℕ)
 file_names files = map (λ file. file.name) files
 
+-- the names of these entries, without FILLER
 abbrev pub entry_names : List Entry → List (List ℕ)
 entry_names [] = []
 entry_names (entry ∷ entries) = option_to_list entry.name ++ entry_names entries
@@ -26,7 +28,7 @@ program_words program =
     program.name ∷ file_names program.files ++ entry_names program.entries
     ++ paragraph_names program.paragraphs
 
--- a table with these words behind it
+-- a table with these words after it
 abbrev pub with_words : List (List ℕ) → List (List ℕ) → List (List ℕ)
 with_words table [] = table
 with_words table (word ∷ words) = with_words (with_word table word) words

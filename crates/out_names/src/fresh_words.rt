@@ -1,4 +1,4 @@
-//! The next word that isn't in a table.
+//! Words that aren't in a table.
 
 ghost use Rattle.std.specs.Prelude.{◌+◌, ◌<◌, ◌^◌, length, IfOk};
 ghost use Rattle.cob_base.specs.Answers.{Makes};
@@ -17,7 +17,7 @@ pub struct FreshWord {
     pub number: u32,
 }
 
-/// The table has the stem with this number.
+/// Whether the table has the stem with this number.
 #[tactic(auto, using(crate::proofs::FreshLemmas::position_any))]
 fn is_taken(alloc: Global, words: &WordTable, stem: &[u8], number: u32) -> Result<bool, NoMemory>
     requires { IsStem stem.now }

@@ -1,8 +1,8 @@
-//! Names of what is written: words that are no word of the program, names of procedures, and their
+//! The names of a result: words that the program doesn't have, names of procedures, and their
 //! order.
 //!
-//! Hold `fresh` against `specs/FreshWords`, `names` against `specs/Naming`, and `order` against
-//! `specs/Ordering`. A fresh word is no word of the table, which is a clause of `fresh`.
+//! `fresh` is to be compared with `specs/FreshWords`, `names` with `specs/Naming`, and `order` with
+//! `specs/Ordering`. A fresh word isn't in the table, which is a clause of `fresh`.
 #![tactic(auto)]
 
 mod fresh_words;

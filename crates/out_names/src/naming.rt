@@ -12,14 +12,14 @@ use cob_tree::{Paragraph, Program, Range};
 use cob_words::WordTable;
 use std::alloc::Global;
 
-/// A name, and the number from which the next fresh one is looked for.
+/// A name, and the number from which the next fresh one is searched for.
 #[derive(Clone, Copy)]
 struct Named {
     name: Word,
     next: u32,
 }
 
-/// The label of a paragraph: its name, else its section's.
+/// The label of a paragraph: its name, or else its section's.
 pub fn paragraph_label(paragraphs: &[Paragraph], entry: u32) -> Option<Word>
     ensures { result ≡ paragraph_label paragraphs.now entry }
 {
@@ -32,7 +32,7 @@ pub fn paragraph_label(paragraphs: &[Paragraph], entry: u32) -> Option<Word>
     }
 }
 
-/// One of the ranges begins there.
+/// Whether one of the ranges begins at this paragraph.
 fn has_entry(ranges: &[Range], entry: u32) -> bool
     ensures { result ≡ has_entry ranges.now entry }
 {
@@ -76,7 +76,7 @@ fn next_name(
     }
 }
 
-/// The names of these procedures, over the words of a program.
+/// The names of these procedures, given the words of a program.
 fn procedure_names(
     alloc: Global,
     words: &WordTable,

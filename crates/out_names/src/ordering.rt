@@ -18,7 +18,7 @@ fn mark(marks: &mut [bool], callees: &[u32])
     }
 }
 
-/// Which ranges wait for a caller that doesn't stand yet.
+/// Which ranges wait for a caller that isn't in the order yet.
 fn waiting(alloc: Global, calls: &[Items<u32>], stands: &[bool]) -> Result<Vec<bool>, NoMemory>
     requires { length calls.now ≡ length stands.now }
     ensures size { IfOk result (λ marks. length marks.items ≡ length calls.now) }
@@ -33,7 +33,7 @@ fn waiting(alloc: Global, calls: &[Items<u32>], stands: &[bool]) -> Result<Vec<b
     Ok(marks)
 }
 
-/// It doesn't stand, and waits for no caller.
+/// Whether this range isn't in the order yet, and waits for no caller.
 fn is_ready(stands: &[bool], waits: &[bool], at: usize) -> bool
     requires stands { at < length stands.now }
     requires waits { at < length waits.now }
@@ -42,7 +42,7 @@ fn is_ready(stands: &[bool], waits: &[bool], at: usize) -> bool
     !stands[at] && !waits[at]
 }
 
-/// The first range that doesn't stand and waits for no caller.
+/// The first range that isn't in the order yet and waits for no caller.
 fn first_ready(
     alloc: Global,
     calls: &[Items<u32>],
@@ -64,7 +64,8 @@ fn first_ready(
 }
 
 /// The order of ranges, by their numbers, where `calls` gives the numbers that each calls: the
-/// first one first, then always the one with the lowest number all of whose callers stand already.
+/// first one first, then always the one with the lowest number whose callers are all in the order
+/// already.
 pub fn order(alloc: Global, calls: &[Items<u32>]) -> Result<Items<u32>, NoMemory>
     requires { length calls.now < 2 ^ 32 }
     ensures { Makes (order_of calls.now) result }

@@ -47,7 +47,8 @@ fn add_paragraphs(words: &mut Items<Word>, paragraphs: &[Paragraph]) -> Result<(
     Ok(())
 }
 
-/// Its words: its name, and those of its files, items, paragraphs and sections.
+/// The words of a program as a list: its name, and those of its files, items, paragraphs and
+/// sections.
 fn program_words(alloc: Global, program: &Program) -> Result<Items<Word>, NoMemory>
     ensures { Makes (program_words program.now) result }
 {
@@ -72,7 +73,8 @@ fn table_of(alloc: Global, words: &[Word]) -> Result<WordTable, NoMemory>
     Ok(table)
 }
 
-/// The words of a program: its name, and those of its files, items, paragraphs and sections.
+/// The table of a program's words: its name, and those of its files, items, paragraphs and
+/// sections.
 pub fn word_table(alloc: Global, program: &Program) -> Result<WordTable, NoMemory>
     requires { length (program_words program.now) < 2 ^ 32 }
     ensures value { Makes (table_of (program_words program.now)) result }

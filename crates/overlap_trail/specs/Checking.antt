@@ -18,22 +18,26 @@ use Rattle.overlap_trail.specs.declared.leg.ParagraphOutcome.{ParagraphOutcome}
 use Rattle.overlap_trail.specs.declared.leg.ParagraphOutcome.TheVariants.{ToEnd, ToSectionEnd, ToStart, Met, Lost}
 use Rattle.overlap_trail.specs.Follow.{Known, Sought, sought_of, MeetsAt, Quietly, Goes, IsStuck, IsMet, IsBetween}
 
--- the exits of hops, the last first, behind these
+-- the exits of hops, the last first, after these
 abbrev pub exits_from : List ℕ → List Hop → List ℕ
 exits_from ends [] = ends
 exits_from ends (hop ∷ hops) = exits_from (with_exit hop.range.exit ends) hops
 
+-- the exits of hops, the last first
 abbrev pub exits_of : List Hop → List ℕ
 exits_of hops = exits_from [] hops
 
+-- the first of the exits is this paragraph
 abbrev pub top_is : ℕ → List ℕ → Bool
 top_is paragraph [] = false
 top_is paragraph (top ∷ others) = top == paragraph
 
+-- one of the exits after the first is this paragraph
 abbrev pub below_is : ℕ → List ℕ → Bool
 below_is paragraph [] = false
 below_is paragraph (top ∷ others) = is_among paragraph others
 
+-- the aim of a goal, after these hops
 abbrev pub aim_of : Goal → List Hop → Aim
 aim_of Return hops = accepted.Return
 aim_of (Enter range) hops = accepted.Enter range
@@ -92,12 +96,12 @@ IsOnFrom paragraph count There = Unit {0}
 IsOnFrom paragraph count Nowhere = Unit {0}
 IsOnFrom paragraph count (On to now) = paragraph < count
 
--- where a hop's moves are to lead to, with these hops behind it
+-- where a hop's moves are to lead to, with these hops after it
 abbrev pub aim_behind : FlowFault → List ℕ → List Hop → Aim
 aim_behind fault ends [] = accepted.Fault fault ends
 aim_behind fault ends (later ∷ hops) = accepted.Enter later.range
 
--- these hops, behind ones that end so, lead from one to the next, and the last one to the fault
+-- these hops, after ones that end so, lead from one to the next, and the last one to the fault
 abbrev pub HopsFrom : (Chooser → Bool) → Program → List Range → FlowFault → List ℕ → List Hop →
     Type 0
 HopsFrom never_first program lemmas fault ends [] = Unit {0}
@@ -106,6 +110,7 @@ HopsFrom never_first program lemmas fault ends (hop ∷ hops) =
     (aim_behind fault (with_exit hop.range.exit ends) hops) hop.moves
     × HopsFrom never_first program lemmas fault (with_exit hop.range.exit ends) hops
 
+-- the first hop is in main
 abbrev pub IsFirstMain : List Hop → Type 0
 IsFirstMain [] = ⊥
 IsFirstMain (hop ∷ hops) = hop.range ≡ main_range

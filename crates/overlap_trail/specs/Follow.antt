@@ -24,9 +24,11 @@ pub record Known : Type 0 where
   pub never_first : Chooser → Bool
   pub lemmas : List Range
 
+-- with the ranges of these lemmas
 abbrev pub knowing : (Chooser → Bool) → List Lemma → Known
 knowing never_first lemmas = record { never_first = never_first; lemmas = lemma_ranges lemmas }
 
+-- in a program with these files, and with these lemmas
 abbrev pub known_of : List FileEntry → List Lemma → Known
 known_of files lemmas = knowing (never_first_of files) lemmas
 
@@ -36,12 +38,15 @@ pub record Sought : Type 0 where
   pub range : Range
   pub aim : Aim
 
+-- this aim, in this range of a program
 abbrev pub sought_of : Program → Range → Aim → Sought
 sought_of program range aim = record { program = program; range = range; aim = aim }
 
+-- what control does at a point
 abbrev pub next_at : Known → Sought → Point → Next
 next_at known sought point = next known.never_first sought.program point
 
+-- one step of what is followed
 abbrev pub onward_at : Known → Sought → Walk → Option Walk
 onward_at known sought here =
     onward known.never_first sought.program known.lemmas sought.range here
@@ -75,7 +80,7 @@ IsMet known sought from entry exit moves = (point : Point) × (after : Point)
     × (next_at known sought point ≡ Calls entry exit after)
     × (onward_at known sought (walk point moves) ≡ None)
 
--- what following comes to in a section whose last paragraph is this one, with this rest behind what
+-- what following comes to in a section whose last paragraph is this one, with this rest after what
 -- was followed
 abbrev pub ComesTo : Known → Sought → ℕ → ℕ → List Item → List Move → Walk → Followed → Type 0
 ComesTo known sought last paragraph rest moves from (Through taken) =
@@ -96,7 +101,7 @@ ComesTo known sought last paragraph rest moves from (Met entry exit taken) =
     IsMet known sought from entry exit (drop taken moves)
 ComesTo known sought last paragraph rest moves from Lost = IsStuck known sought from
 
--- the moves behind the taken ones were followed through the statements
+-- the moves after the taken ones were followed through the statements
 abbrev pub Follows : Known → List Move → ℕ → ℕ → Stmts → Followed → Type 0
 Follows known moves last taken stmts way =
     (sought : Sought) (paragraph : ℕ) (rest : List Item) →
@@ -156,7 +161,7 @@ turned_way (Through now) = Cycled now
 turned_way (Broken now) = Through now
 turned_way way = way
 
--- through the first of the statements, so many moves are taken
+-- through the first of the statements the moves are followed, until so many are taken
 abbrev pub FollowsOn : Known → List Move → Stmts → Stmts → ℕ → ℕ → Type 0
 FollowsOn known moves stmts left taken now =
     (sought : Sought) (paragraph : ℕ) (rest : List Item) →
@@ -165,6 +170,7 @@ FollowsOn known moves stmts left taken now =
 
 -- Moves.
 
+-- so many moves are taken now: no fewer than before, and no more than there are
 abbrev pub IsBetween : ℕ → ℕ → ℕ → Type 0
 IsBetween taken most now = (taken ≤ now) × (now ≤ most)
 
@@ -194,16 +200,17 @@ first_over (Arm number ∷ moves) = None
 first_over (Over number ∷ moves) = Some number
 first_over (Into ∷ moves) = None
 
--- behind the taken moves stands this one
+-- after the moves that are taken comes the one that chooses this arm
 abbrev pub IsArmFirst : List Move → ℕ → ℕ → Type 0
 IsArmFirst moves taken number = (drop taken moves ≡ Arm number ∷ drop (taken + 1) moves)
     × (taken < length moves)
 
+-- after the moves that are taken comes one that steps over the lemma with this number
 abbrev pub IsOverFirst : List Move → ℕ → ℕ → Type 0
 IsOverFirst moves taken number = (drop taken moves ≡ Over number ∷ drop (taken + 1) moves)
     × (taken < length moves)
 
--- the move behind the taken ones chooses this one of two ways
+-- the move after the taken ones chooses this one of two ways
 abbrev pub IsSide : List Move → ℕ → Branch → Type 0
 IsSide moves taken First = IsArmFirst moves taken 1
 IsSide moves taken Second = IsArmFirst moves taken 2
@@ -219,12 +226,15 @@ AreSeveral several (branch ∷ other ∷ branches) = several ≡ true
 -- the moves choose the branch with this number, from 0, and this many of them are taken then
 pub record Picks (moves : List Move) (taken : ℕ) (branches : List Stmts) (index now : ℕ) : Type 0
   where
+    -- the moves choose this branch wherever it is
     pub chosen : (paragraph : ℕ) (rest : List Item) →
         let ways = branch_points paragraph rest branches in
         by_choice (only ways) ways (drop taken moves)
         ≡ walk_to (way_at ways index) (drop now moves)
+    -- so many moves are taken
     pub taken_then : IsBetween taken (length moves) now
 
+-- the moves choose none of the branches
 abbrev pub PicksNone : List Move → ℕ → List Stmts → Type 0
 PicksNone moves taken branches = (paragraph : ℕ) (rest : List Item) →
     let ways = branch_points paragraph rest branches in

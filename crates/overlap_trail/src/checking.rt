@@ -8,12 +8,12 @@ ghost use Rattle.program_points.specs.declared.paths.trail.Hop.{Hop};
 ghost use Rattle.program_points.specs.numbering.Kind.{never_first_of};
 ghost use Rattle.overlap_trail.specs.Checking.{aim_of, exits_of, aim_behind, HopsFrom, IsFirstMain};
 
-use crate::judge::Goal;
+use crate::judge::{Goal, LegContext};
 use crate::leg::{ParagraphStep, one_leg};
 use cob_tree::{FlowFault, Program, Range};
 use program_points::paths::{Hop, Lemma, Move, Trail};
 
-/// Whether the moves lead from the range's entry to where they are to lead.
+/// Whether the moves lead from the range's entry to the goal.
 pub fn leads(
     program: &Program,
     lemmas: &[Lemma],
@@ -32,8 +32,14 @@ pub fn leads(
     let mut paragraph = range.entry as usize;
     let mut taken = 0;
     let mut quiet = 0;
+    let context = LegContext {
+        range,
+        moves,
+        goal,
+        hops,
+    };
     'legs: loop {
-        match one_leg(program, lemmas, range, moves, goal, hops, paragraph, taken) {
+        match one_leg(program, lemmas, context, paragraph, taken) {
             ParagraphStep::There => return true,
             ParagraphStep::Nowhere => return false,
             ParagraphStep::On {
@@ -55,7 +61,7 @@ pub fn leads(
     }
 }
 
-/// Whether each lemma leads to its return, over the ranges of earlier ones alone.
+/// Whether each lemma leads to its return, stepping over the ranges of earlier lemmas alone.
 pub fn lemmas_hold(program: &Program, lemmas: &[Lemma]) -> bool
     ensures { IsTrue result ↔ LemmasHold (never_first_of program.now.files) (control_of program.now)
         [] lemmas.now }
@@ -76,7 +82,7 @@ pub fn lemmas_hold(program: &Program, lemmas: &[Lemma]) -> bool
     true
 }
 
-/// Where the moves of a hop are to lead to.
+/// The goal of a hop's moves.
 pub fn goal_of(fault: FlowFault, hops: &[Hop], number: usize) -> Goal
     requires { number < length hops.now }
     ensures { (front : List Hop) → aim_of result front
@@ -88,7 +94,7 @@ pub fn goal_of(fault: FlowFault, hops: &[Hop], number: usize) -> Goal
     }
 }
 
-/// Whether the hops lead from one to the next, and the last one to the fault.
+/// Whether each hop leads to the next, and the last one to the fault.
 pub fn hops_lead(program: &Program, lemmas: &[Lemma], fault: FlowFault, hops: &[Hop]) -> bool
     ensures { IsTrue result ↔ HopsFrom (never_first_of program.now.files) (control_of program.now)
         (lemma_ranges lemmas.now) fault [] hops.now }

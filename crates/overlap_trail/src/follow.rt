@@ -10,7 +10,7 @@ use cob_tree::Control;
 use program_points::numbering::{LoopStart, kind_of};
 use program_points::paths::{Lemma, Move};
 
-/// What comes of following moves through statements, with the number of moves that are taken then.
+/// The outcome of following moves through statements, with the number of moves taken.
 #[derive(Debug, Clone, Copy)]
 pub enum Followed {
     /// The statements complete.
@@ -27,7 +27,7 @@ pub enum Followed {
     Broken(usize),
     /// This turn of the innermost loop is left.
     Cycled(usize),
-    /// There is a PERFORM, and no move over it.
+    /// There is a PERFORM, and no move steps over it.
     Met { entry: u32, exit: u32, taken: usize },
     /// The moves don't lead on.
     Lost,
@@ -41,14 +41,14 @@ pub enum Branch {
     Neither,
 }
 
-/// A branch, from 0, and the number of moves that are taken once it is chosen.
+/// A branch, from 0, and the number of moves taken once it is chosen.
 #[derive(Debug, Clone, Copy)]
 pub struct BranchChoice {
     pub index: usize,
     pub taken: usize,
 }
 
-/// The move behind the taken ones.
+/// The move after the taken ones.
 pub fn next_move(moves: &[Move], taken: usize) -> Option<Move>
     ensures { MatchOption result (drop taken moves.now ≡ [])
         (λ first. (drop taken moves.now ≡ first ∷ drop (taken + 1) moves.now)
@@ -57,7 +57,7 @@ pub fn next_move(moves: &[Move], taken: usize) -> Option<Move>
     moves.get(taken).copied()
 }
 
-/// The arm that the move behind the taken ones names.
+/// The arm that the move after the taken ones names.
 pub fn arm_move(moves: &[Move], taken: usize) -> Option<u32>
     ensures { MatchOption result (first_arm (drop taken moves.now) ≡ None)
         (IsArmFirst moves.now taken) }
@@ -70,7 +70,7 @@ pub fn arm_move(moves: &[Move], taken: usize) -> Option<u32>
     }
 }
 
-/// The lemma that the move behind the taken ones names.
+/// The lemma that the move after the taken ones names.
 pub fn over_move(moves: &[Move], taken: usize) -> Option<u32>
     ensures { MatchOption result (first_over (drop taken moves.now) ≡ None)
         (IsOverFirst moves.now taken) }
@@ -83,7 +83,7 @@ pub fn over_move(moves: &[Move], taken: usize) -> Option<u32>
     }
 }
 
-/// Which of two ways the move behind the taken ones names.
+/// Which of two ways the move after the taken ones names.
 pub fn side_of(moves: &[Move], taken: usize) -> Branch
     ensures { IsSide moves.now taken result }
 {
@@ -101,7 +101,7 @@ pub fn side_of(moves: &[Move], taken: usize) -> Branch
     }
 }
 
-/// Which branch is taken: the only one, or of several the one that the move behind the taken ones
+/// Which branch is taken: the only one, or of several the one that the move after the taken ones
 /// names.
 pub fn pick_branch(moves: &[Move], taken: usize, several: bool) -> Option<BranchChoice>
     requires { taken ≤ length moves.now }
@@ -128,7 +128,7 @@ pub fn pick_branch(moves: &[Move], taken: usize, several: bool) -> Option<Branch
     }
 }
 
-/// Whether the lemma with this number is one of this range.
+/// Whether the lemma with this number is for this range.
 pub fn is_lemma(lemmas: &[Lemma], number: u32, entry: u32, exit: u32) -> bool
     ensures { result ≡ is_range (slice_get (lemma_ranges lemmas.now) number) entry exit }
 {
@@ -141,7 +141,7 @@ pub fn is_lemma(lemmas: &[Lemma], number: u32, entry: u32, exit: u32) -> bool
     }
 }
 
-/// Through a PERFORM without loop.
+/// Follows moves through a PERFORM without a loop.
 pub fn follow_call(
     lemmas: &[Lemma],
     moves: &[Move],
@@ -185,7 +185,7 @@ pub fn turned(way: Followed) -> Followed
     }
 }
 
-/// Through what is left of a loop over a PERFORM.
+/// Follows moves through what is left of a loop over a PERFORM.
 pub fn follow_calls(
     lemmas: &[Lemma],
     moves: &[Move],
@@ -212,7 +212,7 @@ pub fn follow_calls(
     }
 }
 
-/// Through a PERFORM of paragraphs.
+/// Follows moves through a PERFORM of paragraphs.
 pub fn follow_perform(
     lemmas: &[Lemma],
     moves: &[Move],
@@ -248,7 +248,7 @@ pub fn name_at(names: &[u32], index: usize) -> Option<u32>
     names.get(index).copied()
 }
 
-/// Through a GO TO DEPENDING.
+/// Follows moves through a GO TO DEPENDING.
 pub fn follow_depending(moves: &[Move], taken: usize, names: &[u32]) -> Followed
     requires { taken ≤ length moves.now }
     ensures follows { (known : Known) (last : ℕ) (on : Chooser) → Follows known moves.now last taken

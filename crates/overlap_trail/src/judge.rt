@@ -1,4 +1,4 @@
-//! What moves are to lead to, and whether they have.
+//! The goal of moves, and whether they have come to it.
 
 ghost use Rattle.std.specs.Prelude.{ℕ, List, [], ◌∷◌, ◌≡◌, ◌≤◌, ◌↔◌, length, drop, IsTrue};
 ghost use Rattle.program_points.specs.paths.Step.{Ends, Calls, Point};
@@ -11,7 +11,7 @@ use crate::follow::next_move;
 use cob_tree::{FlowFault, Range};
 use program_points::paths::{Hop, Move};
 
-/// What moves are to lead to.
+/// The goal of moves.
 #[derive(Debug, Clone, Copy)]
 pub enum Goal {
     /// The range's return.
@@ -22,7 +22,16 @@ pub enum Goal {
     Fault(FlowFault),
 }
 
-/// Where a paragraph stands among the exits of hops.
+/// The moves that are followed through a range, with their goal, and the hops before this one.
+#[derive(Debug, Clone, Copy)]
+pub struct LegContext<'a> {
+    pub range: Range,
+    pub moves: &'a [Move],
+    pub goal: Goal,
+    pub hops: &'a [Hop],
+}
+
+/// Whether a paragraph is among the exits of hops.
 #[derive(Debug, Clone, Copy)]
 pub struct ExitPosition {
     /// It is the last hop's exit.
@@ -31,7 +40,7 @@ pub struct ExitPosition {
     pub below: bool,
 }
 
-/// How a paragraph stands, once a hop with this exit was added.
+/// Whether a paragraph is among the exits, once a hop with this exit was added.
 pub fn pushed(standing: ExitPosition, exit: Option<u32>, paragraph: usize) -> ExitPosition
     ensures top { (ends : List ℕ) → standing.top ≡ top_is paragraph ends →
         result.top ≡ top_is paragraph (with_exit exit ends) }
@@ -48,7 +57,7 @@ pub fn pushed(standing: ExitPosition, exit: Option<u32>, paragraph: usize) -> Ex
     }
 }
 
-/// How a paragraph stands among the exits of hops.
+/// Whether a paragraph is among the exits of these hops.
 pub fn standing_of(hops: &[Hop], paragraph: usize) -> ExitPosition
     ensures top { result.top ≡ top_is paragraph (exits_of hops.now) }
     ensures below { result.below ≡ below_is paragraph (exits_of hops.now) }
@@ -82,27 +91,20 @@ pub fn ends_at(exit: Option<u32>, paragraph: usize) -> bool
     }
 }
 
-/// Whether what was to be come to is this paragraph's end.
-pub fn meets_end(
-    goal: Goal,
-    hops: &[Hop],
-    range: Range,
-    paragraph: usize,
-    moves: &[Move],
-    taken: usize,
-) -> bool
-    requires { taken ≤ length moves.now }
-    ensures { IsTrue result ↔ Meets (aim_of goal hops.now) range (Ends paragraph)
-        (drop taken moves.now) }
+/// Whether this paragraph's end meets the goal.
+pub fn meets_end(context: LegContext<'_>, paragraph: usize, taken: usize) -> bool
+    requires { taken ≤ length context.moves.now }
+    ensures { IsTrue result ↔ Meets (aim_of context.entry.goal context.entry.hops.now)
+        context.entry.range (Ends paragraph) (drop taken context.entry.moves.now) }
 {
-    if taken < moves.len() {
+    if taken < context.moves.len() {
         return false;
     }
-    match goal {
-        Goal::Return => ends_at(range.exit, paragraph),
+    match context.goal {
+        Goal::Return => ends_at(context.range.exit, paragraph),
         Goal::Enter(_) => false,
         Goal::Fault(FlowFault::Overlap(at)) => {
-            let standing = standing_of(hops, paragraph);
+            let standing = standing_of(context.hops, paragraph);
             at as usize == paragraph && standing.below && !standing.top
         }
         Goal::Fault(FlowFault::Reentry(_)) => false,
@@ -121,33 +123,25 @@ pub fn last_into(moves: &[Move], taken: usize) -> bool
     }
 }
 
-/// Whether what was to be come to is this PERFORM.
-pub fn meets_call(
-    goal: Goal,
-    hops: &[Hop],
-    range: Range,
-    entry: u32,
-    exit: u32,
-    moves: &[Move],
-    taken: usize,
-) -> bool
-    requires { taken ≤ length moves.now }
+/// Whether this PERFORM meets the goal.
+pub fn meets_call(context: LegContext<'_>, entry: u32, exit: u32, taken: usize) -> bool
+    requires { taken ≤ length context.moves.now }
     ensures { (after : Point) → IsTrue result
-        ↔ Meets (aim_of goal hops.now) range (Calls entry exit after)
-        (drop taken moves.now) }
+        ↔ Meets (aim_of context.entry.goal context.entry.hops.now) context.entry.range
+        (Calls entry exit after) (drop taken context.entry.moves.now) }
 {
-    match goal {
+    match context.goal {
         Goal::Return => false,
         Goal::Enter(called) => match called.exit {
-            Some(end) => last_into(moves, taken) && called.entry == entry && end == exit,
+            Some(end) => last_into(context.moves, taken) && called.entry == entry && end == exit,
             None => false,
         },
         Goal::Fault(FlowFault::Overlap(_)) => false,
         Goal::Fault(FlowFault::Reentry(at)) => {
-            if taken < moves.len() {
+            if taken < context.moves.len() {
                 return false;
             }
-            at == exit && is_pending(hops, exit as usize)
+            at == exit && is_pending(context.hops, exit as usize)
         }
     }
 }

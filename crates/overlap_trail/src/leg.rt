@@ -8,12 +8,12 @@ ghost use Rattle.overlap_trail.specs.Follow.{known_of, Known, sought_of};
 ghost use Rattle.overlap_trail.specs.Checking.{aim_of, FollowsSentences, IsLeg, IsOnFrom, IsCallLeg, IsTakenOut};
 
 use crate::follow::Followed;
-use crate::judge::{Goal, ends_at, meets_call, meets_end};
+use crate::judge::{LegContext, ends_at, meets_call, meets_end};
 use crate::through::follow_stmts;
-use cob_tree::{FileEntry, Paragraph, Program, Range, Sentence};
-use program_points::paths::{Hop, Lemma, Move};
+use cob_tree::{FileEntry, Paragraph, Program, Sentence};
+use program_points::paths::{Lemma, Move};
 
-/// What comes of following moves through a paragraph, with the number of moves that are taken then.
+/// The outcome of following moves through a paragraph, with the number of moves taken.
 #[derive(Debug, Clone, Copy)]
 pub enum ParagraphOutcome {
     /// The paragraph's end.
@@ -22,18 +22,18 @@ pub enum ParagraphOutcome {
     ToSectionEnd(usize),
     /// The start of a paragraph.
     ToStart(u32, usize),
-    /// A PERFORM, and no move over it.
+    /// A PERFORM, and no move steps over it.
     Met { entry: u32, exit: u32, taken: usize },
     /// The moves don't lead on.
     Lost,
 }
 
-/// What following a paragraph comes to.
+/// The outcome of following moves to the start of the next paragraph.
 #[derive(Debug, Clone, Copy)]
 pub enum ParagraphStep {
-    /// What was to be come to.
+    /// The goal.
     There,
-    /// Never to it.
+    /// The moves don't lead to the goal.
     Nowhere,
     /// The start of a paragraph, with this many moves taken.
     On { paragraph: usize, taken: usize },
@@ -54,7 +54,7 @@ pub fn section_last(paragraphs: &[Paragraph], number: usize) -> usize
     last
 }
 
-/// Through the sentences of a paragraph.
+/// Follows moves through the sentences of a paragraph.
 pub fn follow_sentences(
     files: &[FileEntry],
     lemmas: &[Lemma],
@@ -95,26 +95,24 @@ pub fn follow_sentences(
     ParagraphOutcome::ToEnd(now)
 }
 
-/// What the end of a paragraph comes to.
+/// The outcome at the end of a paragraph.
 pub fn end_leg(
     program: &Program,
-    range: Range,
-    moves: &[Move],
-    goal: Goal,
-    hops: &[Hop],
+    context: LegContext<'_>,
     paragraph: usize,
     taken: usize,
 ) -> ParagraphStep
-    requires { taken ≤ length moves.now }
-    ensures leg { (known : Known) →
-        IsLeg known (sought_of (control_of program.now) range (aim_of goal hops.now)) moves.now
-        (walk (at paragraph []) (drop taken moves.now)) taken result }
+    requires { taken ≤ length context.moves.now }
+    ensures leg { (known : Known) → IsLeg known
+        (sought_of (control_of program.now) context.entry.range
+        (aim_of context.entry.goal context.entry.hops.now)) context.entry.moves.now
+        (walk (at paragraph []) (drop taken context.entry.moves.now)) taken result }
     ensures within { IsOnFrom paragraph (length program.now.paragraphs) result }
 {
-    if meets_end(goal, hops, range, paragraph, moves, taken) {
+    if meets_end(context, paragraph, taken) {
         return ParagraphStep::There;
     }
-    if ends_at(range.exit, paragraph) {
+    if ends_at(context.range.exit, paragraph) {
         return ParagraphStep::Nowhere;
     }
     let behind = program.paragraphs.len().saturating_sub(paragraph);
@@ -128,55 +126,48 @@ pub fn end_leg(
     }
 }
 
-/// What a PERFORM that no move steps over comes to.
-pub fn call_leg(
-    moves: &[Move],
-    goal: Goal,
-    hops: &[Hop],
-    range: Range,
-    entry: u32,
-    exit: u32,
-    taken: usize,
-) -> ParagraphStep
-    requires { taken ≤ length moves.now }
-    ensures leg { IsCallLeg range (aim_of goal hops.now) moves.now entry exit taken result }
+/// The outcome at a PERFORM that no move steps over.
+pub fn call_leg(context: LegContext<'_>, entry: u32, exit: u32, taken: usize) -> ParagraphStep
+    requires { taken ≤ length context.moves.now }
+    ensures leg { IsCallLeg context.entry.range
+        (aim_of context.entry.goal context.entry.hops.now) context.entry.moves.now entry exit taken
+        result }
     ensures within { (paragraph count : ℕ) → IsOnFrom paragraph count result }
 {
-    if meets_call(goal, hops, range, entry, exit, moves, taken) {
+    if meets_call(context, entry, exit, taken) {
         ParagraphStep::There
     } else {
         ParagraphStep::Nowhere
     }
 }
 
-/// What a paragraph, from its start, comes to.
+/// Follows moves through a paragraph, from its start.
 pub fn one_leg(
     program: &Program,
     lemmas: &[Lemma],
-    range: Range,
-    moves: &[Move],
-    goal: Goal,
-    hops: &[Hop],
+    context: LegContext<'_>,
     paragraph: usize,
     taken: usize,
 ) -> ParagraphStep
-    requires { taken ≤ length moves.now }
+    requires { taken ≤ length context.moves.now }
     ensures leg { IsLeg (known_of program.now.files lemmas.now)
-        (sought_of (control_of program.now) range (aim_of goal hops.now)) moves.now
-        (walk (start (control_of program.now) paragraph) (drop taken moves.now)) taken result }
+        (sought_of (control_of program.now) context.entry.range
+        (aim_of context.entry.goal context.entry.hops.now)) context.entry.moves.now
+        (walk (start (control_of program.now) paragraph) (drop taken context.entry.moves.now))
+        taken result }
     ensures within { IsOnFrom paragraph (length program.now.paragraphs) result }
 {
     let files = program.files.as_slice();
     let paragraphs = program.paragraphs.as_slice();
     if paragraph >= paragraphs.len() {
-        return end_leg(program, range, moves, goal, hops, paragraph, taken);
+        return end_leg(program, context, paragraph, taken);
     }
     let sentences = paragraphs[paragraph].sentences.as_slice();
-    match follow_sentences(files, lemmas, moves, taken, sentences) {
-        ParagraphOutcome::ToEnd(now) => end_leg(program, range, moves, goal, hops, paragraph, now),
+    match follow_sentences(files, lemmas, context.moves, taken, sentences) {
+        ParagraphOutcome::ToEnd(now) => end_leg(program, context, paragraph, now),
         ParagraphOutcome::ToSectionEnd(now) => {
             let last = section_last(paragraphs, paragraph);
-            end_leg(program, range, moves, goal, hops, last, now)
+            end_leg(program, context, last, now)
         }
         ParagraphOutcome::ToStart(to, now) => ParagraphStep::On {
             paragraph: to as usize,
@@ -186,7 +177,7 @@ pub fn one_leg(
             entry,
             exit,
             taken: now,
-        } => call_leg(moves, goal, hops, range, entry, exit, now),
+        } => call_leg(context, entry, exit, now),
         ParagraphOutcome::Lost => ParagraphStep::Nowhere,
     }
 }

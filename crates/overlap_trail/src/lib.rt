@@ -1,9 +1,8 @@
 //! Trails of programs: whether one is accepted.
 //!
-//! `check` follows a trail's moves through the tree, without memory, and holds exactly where
-//! `IsAccepted` of `program_points::paths` does. `specs/Follow.antt` says what comes of
-//! following moves through statements, `specs/Checking.antt` what of following them from one
-//! paragraph to the next.
+//! `check` follows a trail's moves through the tree, without allocating, and holds exactly where
+//! `IsAccepted` of `program_points::paths` does. `specs/Follow.antt` defines following moves
+//! through statements, `specs/Checking.antt` following them from one paragraph to the next.
 #![tactic(auto)]
 
 mod checking;
@@ -20,7 +19,8 @@ pub use follow::{
     follow_perform, is_lemma, name_at, next_move, over_move, pick_branch, side_of, turned,
 };
 pub use judge::{
-    ExitPosition, Goal, ends_at, is_pending, last_into, meets_call, meets_end, pushed, standing_of,
+    ExitPosition, Goal, LegContext, ends_at, is_pending, last_into, meets_call, meets_end, pushed,
+    standing_of,
 };
 pub use leg::{
     ParagraphOutcome, ParagraphStep, call_leg, end_leg, follow_sentences, one_leg, section_last,

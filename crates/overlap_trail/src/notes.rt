@@ -1,8 +1,7 @@
-//! The lines that tell a trail.
+//! The lines that describe a trail.
 //!
-//! `trail_text` gives them; hold `specs/notes/Trail.antt` against it, a definition a part of a
-//! line. The first line names the fault; then a line for each lemma, numbered from 0, and one for
-//! each hop.
+//! `trail_text` gives them; `specs/notes/Trail.antt` defines each part of a line. The first line
+//! names the fault; then comes a line for each lemma, numbered from 0, and one for each hop.
 
 mod level;
 mod trail;

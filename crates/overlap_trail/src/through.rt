@@ -15,7 +15,7 @@ use cob_tree::{Arms, Control, FileEntry, Stmt, When};
 use program_points::numbering::{LoopStart, is_silent, kind_of};
 use program_points::paths::{Lemma, Move};
 
-/// Through a statement.
+/// Follows moves through a statement.
 #[cycle(follow)]
 pub fn follow_stmt(
     files: &[FileEntry],
@@ -85,7 +85,7 @@ pub fn follow_stmt(
     }
 }
 
-/// Through these statements, where the first way takes them.
+/// Follows moves through these statements, where the first way takes them.
 #[cycle(follow)]
 pub fn follow_first(
     files: &[FileEntry],
@@ -107,7 +107,7 @@ pub fn follow_first(
     }
 }
 
-/// Through these statements, where the second way takes them.
+/// Follows moves through these statements, where the second way takes them.
 #[cycle(follow)]
 pub fn follow_second(
     files: &[FileEntry],
@@ -129,7 +129,7 @@ pub fn follow_second(
     }
 }
 
-/// Through the arms of READ or of arithmetic.
+/// Follows moves through the arms of READ or of arithmetic.
 #[cycle(follow)]
 pub fn follow_arms(
     files: &[FileEntry],
@@ -166,7 +166,7 @@ pub fn follow_arms(
     }
 }
 
-/// Through the WHEN with this number, from 0.
+/// Follows moves through the WHEN with this number, from 0.
 #[cycle(follow)]
 pub fn follow_when(
     files: &[FileEntry],
@@ -189,7 +189,7 @@ pub fn follow_when(
     Followed::Lost
 }
 
-/// Through an inline PERFORM.
+/// Follows moves through an inline PERFORM.
 #[cycle(follow)]
 pub fn follow_loop(
     files: &[FileEntry],
@@ -218,7 +218,7 @@ pub fn follow_loop(
     }
 }
 
-/// Through what is left of a loop.
+/// Follows moves through what is left of a loop.
 #[cycle(follow)]
 pub fn follow_turns(
     files: &[FileEntry],
@@ -245,7 +245,7 @@ pub fn follow_turns(
     }
 }
 
-/// Through statements.
+/// Follows moves through statements.
 #[cycle(follow)]
 pub fn follow_stmts(
     files: &[FileEntry],

@@ -12,7 +12,9 @@ use Rattle.parser_combinators.specs.declared.why.Why.TheVariants.{Syntax}
 -- the tokens from here on, how many were taken before, and the first name fault so far
 pub record Input : Type 0 where
   pub rest : List Token
+  -- how many tokens were taken before
   pub taken : ℕ
+  -- the first name fault so far
   pub fault : Option Note
 
 -- the same input with these tokens from there on
@@ -23,10 +25,11 @@ at rest p = record p { rest = rest }
 abbrev pub past : List Token → Input → Input
 past rest p = record p { rest = rest; taken = p.taken + 1 }
 
--- where the next token stands
+-- the position of the next token
 abbrev pub position_of : Input → Token → Position
 position_of p t = record { index = p.taken; line = t.line }
 
+-- the input with this fault noted, where none came before it
 abbrev pub with_fault : Option Note → Input → Input
 with_fault fault p = record p { fault = earliest p.fault fault }
 
@@ -34,23 +37,27 @@ with_fault fault p = record p { fault = earliest p.fault fault }
 abbrev pub behind_fault : Option Note → Input → Input
 behind_fault fault p = record p { fault = earliest fault p.fault }
 
--- a value and the input behind it, or why there is none and the tokens from the one that decides so
+-- a value and the input after it, or why there is none and the tokens from the one that decides so
 pub data Outcome (A : Type 0) : Type 0 where
   Got : A → Input → Outcome A
   Stop : Why → List Token → Outcome A
 
+-- the tokens that are left
 abbrev pub left : {A : Type 0} → Outcome A → List Token
 left (Got a p) = p.rest
 left (Stop why rest) = rest
 
+-- goes on with the value and the input after it, where there is a value
 abbrev pub then_read : {A B : Type 0} → Outcome A → (A → Input → Outcome B) → Outcome B
 then_read (Got a p) f = f a p
 then_read (Stop why rest) f = Stop why rest
 
+-- the outcome, where this fault was noted before
 abbrev pub noted_before : {A : Type 0} → Option Note → Outcome A → Outcome A
 noted_before fault (Got a p) = Got a (behind_fault fault p)
 noted_before fault (Stop why rest) = Stop why rest
 
+-- a production of a grammar
 pub record Form (A : Type 0) : Type 1 where
   -- from the first input on, tokens spell the value up to the second
   pub spells : Input → A → Input → Type 0
@@ -61,6 +68,7 @@ pub record Form (A : Type 0) : Type 1 where
 
 -- ---- nothing
 
+-- no token, and this value
 abbrev pub pure : {A : Type 0} → A → Form A
 pure a = record {
   spells = λ p b q. (a ≡ b) × (p ≡ q);
@@ -68,6 +76,7 @@ pure a = record {
   reads = λ p. Got a p;
 }
 
+-- no token, and no value, for this reason
 abbrev pub refuse : {A : Type 0} → Why → Form A
 refuse why = record {
   spells = λ p b q. ⊥;
@@ -86,6 +95,7 @@ note fault = record {
 -- ---- one after the other
 
 infixl 10 ◌>>=◌
+-- one form, and then the one that its value chooses
 abbrev pub ◌>>=◌ : {A B : Type 0} → Form A → (A → Form B) → Form B
 ◌>>=◌ {A = A} {B = B} f g = record {
   spells = λ p b q. (a : A) × (mid : Input) × f.spells p a mid × (g a).spells mid b q;
@@ -94,28 +104,34 @@ abbrev pub ◌>>=◌ : {A B : Type 0} → Form A → (A → Form B) → Form B
 }
 
 infixl 10 ◌>>◌
+-- one form, and then the other, whose value counts
 abbrev pub ◌>>◌ : {A B : Type 0} → Form A → Form B → Form B
 f >> g = f >>= (λ _. g)
 
 infixr 11 ◌<$>◌
+-- a form with its value changed
 abbrev pub ◌<$>◌ : {A B : Type 0} → (A → B) → Form A → Form B
 f <$> p = p >>= (λ x. pure (f x))
 
 -- ---- one token
 
+-- the first of these tokens spells the value
 abbrev pub one_spells : {A : Type 0} → (Position → TokenKind → Option A) →
     List Token → Input → A → Input → Type 0
 one_spells test [] p a q = ⊥
 one_spells test (t ∷ ts) p a q = (test (position_of p t) t.kind ≡ Some a) × (past ts p ≡ q)
 
+-- there is no token, or one that the test takes and no other
 abbrev pub one_cut : {A : Type 0} → (Position → TokenKind → Option A) → List Token → Input → Type 0
 one_cut {A = A} test [] p = Unit {0}
 one_cut {A = A} test (t ∷ ts) p = ((a : A) × (test (position_of p t) t.kind ≡ Some a)) × (ts ≡ [])
 
+-- the value of the token, where it has one; else it stops there
 abbrev pub taken_as : {A : Type 0} → Option A → Token → List Token → Input → Outcome A
 taken_as (Some a) t ts p = Got a (past ts p)
 taken_as None t ts p = Stop Syntax (t ∷ ts)
 
+-- the value of the first of these tokens, where the test takes it
 abbrev pub one_reads : {A : Type 0} → (Position → TokenKind → Option A) →
     List Token → Input → Outcome A
 one_reads test [] p = Stop Syntax []
@@ -129,11 +145,12 @@ one test = record {
   reads = λ p. one_reads test p.rest p;
 }
 
--- where the next token stands, which is not taken; none where no token is left
+-- the position of the next token, which is not taken; none where no token is left
 abbrev pub next_position : List Token → Input → Option Position
 next_position [] p = None
 next_position (t ∷ ts) p = Some (position_of p t)
 
+-- no token, and where the next one is
 abbrev pub here : Form (Option Position)
 here = record {
   spells = λ p a q. (next_position p.rest p ≡ a) × (p ≡ q);
@@ -143,10 +160,12 @@ here = record {
 
 -- ---- by the next token
 
+-- the kind of the next token
 abbrev pub next : List Token → Option TokenKind
 next [] = None
 next (t ∷ ts) = Some t.kind
 
+-- there is no token, or the tokens are cut in the form that the next one chooses
 abbrev pub by_cut : {A : Type 0} → (Option TokenKind → Form A) → Input → List Token → Type 0
 by_cut choice p [] = Unit {0}
 by_cut choice p (t ∷ ts) = (choice (Some t.kind)).cut p
@@ -161,10 +180,12 @@ by choice = record {
 
 -- ---- as long as a token begins a turn
 
+-- there is a next token, and it begins a turn
 abbrev pub begins_by : (TokenKind → Bool) → Option TokenKind → Bool
 begins_by begin None = false
 begins_by begin (Some kind) = begin kind
 
+-- the next token begins a turn
 abbrev pub is_next : (TokenKind → Bool) → Input → Bool
 is_next begin p = begins_by begin (next p.rest)
 
@@ -203,12 +224,13 @@ loop_while begin step s = record {
   reads = λ p. loop_reads begin step (length p.rest) s p;
 }
 
--- turns that the token alone begins
+-- any number of turns, each of which the next token alone begins
 abbrev pub loop : {S : Type 0} → (TokenKind → Bool) → (S → Form S) → S → Form S
 loop begin step s = loop_while (λ _. begin) step s
 
 -- ---- made of these
 
+-- one of two forms
 abbrev pub chosen : {A : Type 0} → Bool → Form A → Form A → Form A
 chosen true there other = there
 chosen false there other = other
@@ -221,7 +243,7 @@ where_next begin there other = by (λ kind. chosen (begins_by begin kind) there 
 abbrev pub added : {A : Type 0} → Form A → List A → Form (List A)
 added item front = item >>= (λ x. pure (front ++ x ∷ []))
 
--- any number of items, one behind the other
+-- any number of items, one after the other
 abbrev pub many : {A : Type 0} → (TokenKind → Bool) → Form A → Form (List A)
 many begin item = loop begin (added item) []
 

@@ -8,7 +8,7 @@ pub mod Reading
 -- A small grammar, at which the laws are stated.
 pub mod Example
 pub mod Laws
--- How a reading that stopped, and a name fault that it noted, are told of a source: by a line
+-- How a reading that stopped, and a name fault that it noted, are reported of a source: by a line
 -- alone, or by the limit that is passed.
 pub mod faults
 -- The words and literals of a program's own: which tokens they are, and how they are read.

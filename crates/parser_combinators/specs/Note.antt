@@ -15,7 +15,7 @@ rank kinds.Redefines = 5
 rank kinds.Value = 6
 rank kinds.Usage = 7
 
--- the first stands at an earlier token, or at the same one and its kind comes first
+-- the first is at an earlier token, or at the same one and its kind comes first
 abbrev pub precedes : Note → Note → Bool
 precedes a b =
     if a.position.index == b.position.index then nat_lt (rank a.kind) (rank b.kind)

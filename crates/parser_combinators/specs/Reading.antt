@@ -11,29 +11,37 @@ use Rattle.parser_combinators.specs.Form.{Input, at, past, behind_fault, Outcome
 -- The tokens left begin with the first token such that the tokens up to it are not cut, or there
 -- are none left where more are needed.
 pub record IsFirstFault {A : Type 0} (f : Form A) (p : Input) (rest : List Token) : Type 0 where
+  -- the tokens before the fault
   pub used : List Token
+  -- they come before those that are left
   pub parts : p.rest ≡ used ++ rest
+  -- each front of them is cut
   pub before : (front more : List Token) → used ≡ front ++ more → f.cut (at front p)
+  -- with one token more they aren't
   pub at_it : (t : Token) (more : List Token) → rest ≡ t ∷ more → f.cut (at (used ++ t ∷ []) p) → ⊥
 
 -- before all these tokens, with no fault
 abbrev pub start : List Token → Input
 start tokens = record { rest = tokens; taken = 0; fault = None }
 
--- behind so many of these tokens, with no fault
+-- after so many of these tokens, with no fault
 abbrev pub start_at : ℕ → List Token → Input
 start_at from tokens = record { rest = drop from tokens; taken = from; fault = None }
 
 -- What is read is what spells, there is one reading, and where there is none it stops at the first
 -- fault.
 pub record IsReader {A : Type 0} (f : Form A) : Type 0 where
+  -- what is read is spelled
   pub sound : (p : Input) (a : A) (q : Input) → f.reads p ≡ Got a q → f.spells p a q
+  -- what is spelled is read
   pub complete : (p : Input) (a : A) (q : Input) → f.spells p a q → f.reads p ≡ Got a q
+  -- tokens spell one value, and end at one place
   pub unique : (p : Input) (a b : A) (q r : Input) →
       f.spells p a q → f.spells p b r → (a ≡ b) × (q ≡ r)
+  -- where there is no value, it stops at the first fault
   pub fault : (p : Input) (why : Why) (rest : List Token) →
       f.reads p ≡ Stop why rest → IsFirstFault f p rest
-  -- the cut texts are those that are read to their end, with a value or for want of more
+  -- the cut texts are those that are read to their end, with a value or because there are no more
   pub is_cut : (p : Input) → f.cut p ↔ (left (f.reads p) ≡ [])
   -- a fault that was noted before stays, and changes nothing else
   pub noted : (p : Input) (earlier : Option Note) →
@@ -46,6 +54,7 @@ pub record IsReader {A : Type 0} (f : Form A) : Type 0 where
 -- higher one
 pub record Bound : Type 0 where
   pub why : Why
+  -- by how many tokens a higher limit comes further
   pub gains : ℕ
 
 -- a limit on levels: what is nested too deep begins with a token, which one level more takes
@@ -68,12 +77,13 @@ Deeper bound (Stop why rest) more =
 abbrev pub OnlyAdds : {A : Type 0} → Bound → Form A → Form A → Type 0
 OnlyAdds bound f g = (p : Input) → Deeper bound (f.reads p) (g.reads p)
 
--- the outcome, unless memory ran out
+-- what was read is this outcome, unless memory ran out
 abbrev pub Reads : {A : Type 0} → Outcome A → Result A Unread → Input → Type 0
 Reads outcome (Ok a) now = outcome ≡ Got a now
 Reads outcome (Err (unread.Stop why)) now = outcome ≡ Stop why now.rest
 Reads outcome (Err unread.NoMemory) now = Unit {0}
 
+-- the line of a token, or 1 where there is none
 abbrev pub line_or_first : Option Token → ℕ
 line_or_first (Some t) = t.line
 line_or_first None = 1
@@ -87,14 +97,16 @@ abbrev pub fault_line : List Token → List Token → ℕ
 fault_line tokens [] = last_line tokens
 fault_line tokens (t ∷ rest) = t.line
 
--- the input behind the next token, where there is one
+-- the input after the next token, where there is one
 abbrev pub skip_from : List Token → Input → Input
 skip_from [] p = p
 skip_from (t ∷ ts) p = past ts p
 
+-- the input after the next token, where there is one
 abbrev pub behind_next : Input → Input
 behind_next p = skip_from p.rest p
 
+-- the reason, where such a token is next; else it is one of syntax
 abbrev pub unread_where : Bool → Why → Unread
 unread_where begins why = unread.Stop (if begins then why else Syntax)
 
@@ -106,5 +118,7 @@ AllSpell f tokens value fault =
 -- The tokens left begin with the first fault, and this is why they are not read on.
 pub record Stops {A : Type 0} (f : Form A) (p : Input) (why : Why) (rest : List Token) : Type 0
   where
+    -- the tokens that are left begin with the first fault
     pub first : IsFirstFault f p rest
+    -- this is why reading stops there
     pub by_why : f.reads p ≡ Stop why rest

@@ -1,2 +1,2 @@
--- How what went wrong in a reading is told.
+-- How what went wrong in a reading is reported.
 pub mod Fault

@@ -1,4 +1,4 @@
-//! Reading a list of tokens from the left.
+//! Reads a list of tokens from the left.
 
 ghost use Rattle.std.specs.Prelude.{◌≡◌, ◌+◌, ◌<◌, ◌≤◌, ◌^◌, length};
 ghost use Rattle.std.specs.Option.{option_copied};
@@ -36,7 +36,7 @@ impl<'a> Model for Cursor<'a> {
 }
 
 impl<'a> Cursor<'a> {
-    /// Before all these tokens, with no fault yet.
+    /// A cursor before all these tokens, with no fault yet.
     pub fn new(rest: &'a [Token]) -> Cursor<'a>
         ensures { result ≡ reading.start rest.now }
     {
@@ -47,7 +47,7 @@ impl<'a> Cursor<'a> {
         }
     }
 
-    /// Behind so many of these tokens, with no fault yet.
+    /// A cursor after the first `from` of these tokens, with no fault yet.
     pub fn from_index(tokens: &'a [Token], from: usize) -> Cursor<'a>
         requires { from ≤ length tokens.now }
         ensures { result ≡ reading.start_at from tokens.now }
@@ -59,7 +59,7 @@ impl<'a> Cursor<'a> {
         }
     }
 
-    /// How many tokens were taken, with those that the reading began behind.
+    /// How many tokens were taken, including those after which the reading began.
     pub fn index(&self) -> usize
         ensures { result ≡ self.now.taken }
     {
@@ -90,8 +90,8 @@ impl<'a> Cursor<'a> {
         }
     }
 
-    /// Notes a name fault, where there is one. Of all that are noted the first in the order of
-    /// tokens is kept.
+    /// Notes a name fault, where there is one. Of all noted faults the first in the order of tokens
+    /// is kept.
     pub fn note(&mut self, fault: Option<Note>)
         ensures { self.new ≡ form.with_fault fault self.old }
     {
@@ -119,6 +119,7 @@ impl<'a> Cursor<'a> {
         }
     }
 
+    /// Whether the next token is this mark.
     pub fn sees_mark(&self, byte: u8) -> bool
         ensures { result ≡ form.is_next (part.is_mark byte) self.now }
     {
@@ -134,6 +135,7 @@ impl<'a> Cursor<'a> {
         }
     }
 
+    /// Whether the next token is a period.
     pub fn sees_period(&self) -> bool
         ensures { result ≡ form.is_next part.is_period self.now }
     {
@@ -167,7 +169,7 @@ impl<'a> Cursor<'a> {
         }
     }
 
-    /// Goes on behind one token, to these that are left.
+    /// Goes on after one token, to these that are left.
     fn move_to(&mut self, rest: &'a [Token])
         requires { self.old.taken + 1 + length rest.now < 2 ^ 63 }
         ensures { self.new ≡ form.past rest.now self.old }
@@ -196,6 +198,7 @@ impl<'a> Cursor<'a> {
         }
     }
 
+    /// Takes this mark, and gives its position.
     pub fn mark(&mut self, byte: u8) -> Result<Position, Unread>
         ensures { Reads ((part.mark byte).reads self.old) result self.new }
     {
@@ -215,6 +218,7 @@ impl<'a> Cursor<'a> {
         }
     }
 
+    /// Takes a period, and gives its position.
     pub fn period(&mut self) -> Result<Position, Unread>
         ensures { Reads (part.period.reads self.old) result self.new }
     {
@@ -243,8 +247,8 @@ impl<'a> Cursor<'a> {
         }
     }
 
-    /// Why nothing is read here, where what begins with the next token, or doesn't, may not be
-    /// nested deeper.
+    /// Why nothing is read here, where no deeper nesting is allowed; `begins` says whether the next
+    /// token would begin one.
     pub fn too_deep(&self, why: Why, begins: bool) -> Unread
         ensures { result ≡ reading.unread_where begins why }
     {
@@ -341,7 +345,7 @@ impl<'a> Cursor<'a> {
         }
     }
 
-    /// Takes the picture behind PIC, and gives it with its position.
+    /// Takes the picture after PIC, and gives it with its position.
     pub fn picture(&mut self, alloc: Global) -> Result<(Text, Position), Unread>
         ensures { Reads (part.picture.reads self.old) result self.new }
     {
@@ -361,8 +365,8 @@ impl<'a> Cursor<'a> {
         }
     }
 
-    /// The line of a fault here, of these tokens: of the next token, or of the last of all where
-    /// none is left, or 1 where there is none at all.
+    /// The line of a fault here: that of the next token; that of the last of `tokens`, where none
+    /// is left; or 1, where there is none at all.
     pub fn fault_line(&self, tokens: &[Token]) -> u32
         ensures { result ≡ reading.fault_line tokens.now self.now.rest }
     {

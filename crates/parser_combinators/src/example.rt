@@ -1,4 +1,4 @@
-//! A small grammar, at which the laws of every way to make a form are proved, and its parser.
+//! A small grammar, for which the laws of every way to make a form are proved, and its parser.
 
 ghost use Rattle.std.specs.Prelude.{◌≡◌, List, None, Option, IfOk, IfErr, position};
 ghost use Rattle.std.specs.Str.{bytes_eq};
@@ -15,7 +15,8 @@ use cob_base::{Items, Word};
 use cobol_lex::{Token, TokenKind};
 use std::alloc::Global;
 
-/// A part of an order. An order that repeats others stands as its beginning, those and its end.
+/// A part of an order. An order that repeats others is listed as its beginning, the others and its
+/// end.
 #[derive(Debug, Drop, PartialEq, Eq)]
 pub enum Step {
     Show(Items<u8>),
@@ -25,7 +26,7 @@ pub enum Step {
     End,
 }
 
-/// Why tokens are no text of the small grammar.
+/// Why tokens aren't a text of the small grammar.
 #[derive(Clone, Copy, Debug, PartialEq, Eq)]
 pub enum Fault {
     /// With the line of the token that decides it, or of the last token where more are needed, or

@@ -1,4 +1,4 @@
-//! How a reading that stopped, and a name fault that it noted, are told of a source: by a line
+//! How a reading that stopped, and a name fault that it noted, are reported for a source: by a line
 //! alone, or by the limit that is passed.
 
 ghost use Rattle.std.specs.Prelude.{◌≡◌};
@@ -28,6 +28,7 @@ pub fn stop_error(why: Why, line: u32) -> ParseError
     }
 }
 
+/// A name fault of this kind, with its line.
 pub fn name_fault(kind: NameKind, line: u32) -> NameFault
     ensures { result ≡ faults.name_fault kind line }
 {

@@ -1,4 +1,4 @@
-//! What holds of a grammar that is written in these forms, proved at the small one of `example`,
+//! What holds of a grammar that is written in these forms, proved for the small one of `example`,
 //! which uses each way to make a form. These functions do nothing; their contracts are laws.
 
 ghost use Rattle.parser_combinators.specs.Laws.{FormsAreRead, LevelsOnlyAdd};
@@ -9,7 +9,7 @@ pub fn forms_are_read()
     ensures { FormsAreRead }
 {}
 
-/// More levels change neither what is read nor a fault of another kind, and go on behind what was
+/// More levels change neither what is read nor a fault of another kind, and go on after what was
 /// nested too deep.
 pub fn levels_only_add()
     ensures { LevelsOnlyAdd }

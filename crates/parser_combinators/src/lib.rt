@@ -1,4 +1,4 @@
-//! The words in which a grammar over tokens is written, and the cursor that reads by them.
+//! The forms in which a grammar over tokens is written, and the cursor that reads by them.
 //!
 //! A grammar is written once, as forms in `specs`. A form gives what is spelled, where a text may
 //! stop, and what a parser answers; a parser's function mirrors its form over a `Cursor`. Each

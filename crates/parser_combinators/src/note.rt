@@ -3,7 +3,8 @@
 ghost use Rattle.std.specs.Prelude.{◌≡◌};
 ghost use Rattle.parser_combinators.specs.Note as notes;
 
-/// What is wrong with a name or clause. At one token the first in this order counts.
+/// What is wrong with a name or clause. Of several faults at one token the first in this order
+/// counts.
 #[derive(Clone, Copy, Debug, PartialEq, Eq)]
 pub enum NameKind {
     /// Declared twice.
@@ -19,16 +20,16 @@ pub enum NameKind {
     Usage,
 }
 
-/// Where a token stands.
+/// Where a token is.
 #[derive(Clone, Copy, Debug, PartialEq, Eq)]
 pub struct Position {
-    /// How many tokens stand before it.
+    /// How many tokens come before it.
     pub index: usize,
     /// Its line of the source, from 1.
     pub line: u32,
 }
 
-/// A fault of a name, and where it stands.
+/// A fault of a name, and where it is.
 #[derive(Clone, Copy, Debug, PartialEq, Eq)]
 pub struct Note {
     pub kind: NameKind,

@@ -2,10 +2,10 @@
 
 use cob_base::NoMemory;
 
-/// Why tokens aren't read on.
+/// Why the next tokens aren't read.
 #[derive(Clone, Copy, Debug, PartialEq, Eq)]
 pub enum Why {
-    /// A token that can't stand here, or none where more are needed.
+    /// A token that can't come here, or none where more are needed.
     Syntax,
     /// More leaves and signs in one condition or expression than the limit.
     Terms,
@@ -18,7 +18,7 @@ pub enum Why {
 /// Why nothing is read.
 #[derive(Clone, Copy, Debug, PartialEq, Eq)]
 pub enum Unread {
-    /// The cursor then stands at the token that decides it, or past the last.
+    /// The cursor is then before the token that decides it, or after the last.
     Stop(Why),
     NoMemory,
 }

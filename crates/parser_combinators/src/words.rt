@@ -1,8 +1,8 @@
 //! The words and literals of a program's own: which tokens they are, and how they are read.
 //!
-//! Hold `specs/words/Word` against ISO 1989:1985, user-defined words, and `specs/words/Constant`
-//! against literals and figurative constants. `words_are_read` says that each form reads what it
-//! spells and nothing else.
+//! `specs/words/Word` is to be compared with ISO 1989:1985, user-defined words, and
+//! `specs/words/Constant` with literals and figurative constants. `words_are_read` says that each
+//! form reads what it spells and nothing else.
 
 mod constant;
 mod laws;

@@ -8,5 +8,6 @@ use Rattle.pending_returns.specs.Summary.{IsSummary}
 
 -- no flow path comes to a fault, and this is the summary of the ranges that they perform
 pub record IsFaultFree (program : Program) (summary : Summary) : Type 0 where
+  -- no flow path comes to a fault
   pub never : IsFaulty (never_first_of program.files) (control_of program) → ⊥
   pub is : IsSummary (never_first_of program.files) (control_of program) summary

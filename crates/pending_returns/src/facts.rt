@@ -16,16 +16,16 @@ use std::alloc::Global;
 #[derive(Debug, Drop)]
 pub struct RangeFacts {
     pub range: Range,
-    /// Whether it comes to its return.
+    /// Whether the level comes to its return.
     pub returns: bool,
-    /// The ranges that it performs, by their numbers, rising.
+    /// The ranges that it performs, by their numbers, in ascending order.
     pub calls: Items<u32>,
-    /// The paragraphs whose end it passes without returning, rising.
+    /// The paragraphs whose end it passes without returning, in ascending order.
     pub ends: Items<u32>,
 }
 
-/// What the ranges that some flow path performs do, main first and the others by entry and exit;
-/// and of each paragraph whether some flow path comes to it.
+/// What each range that some flow path performs does, main first and the others by entry and exit;
+/// and for each paragraph whether some flow path comes to it.
 #[derive(Debug, Drop)]
 pub struct Summary {
     pub ranges: Items<RangeFacts>,

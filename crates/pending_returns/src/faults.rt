@@ -1,9 +1,9 @@
-//! Where a flow path of a program comes to a fault, told by the program's summary.
+//! Whether a flow path of a program comes to a fault, by the program's summary.
 //!
-//! A fault needs a range that is pending, and a range to which calls lead from it, whose level
-//! passes the pending one's end or performs a range that ends there too. `clash_in` looks for such
-//! a pair, and the program is faulty exactly where there is one. `specs/faults/Clash.antt` says
-//! what a pair is.
+//! A fault needs a pending range, and a range to which calls lead from it, whose level passes the
+//! pending one's end or performs a range that ends there too. `clash_in` searches for such a pair,
+//! and the program is faulty exactly where there is one. `specs/faults/Clash.antt` says what a pair
+//! is.
 
 mod clash;
 mod fault;

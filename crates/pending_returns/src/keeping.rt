@@ -1,4 +1,4 @@
-//! The facts of the ranges that are kept, by new numbers.
+//! The facts of the ranges that are kept, with new numbers.
 
 ghost use Rattle.std.specs.Prelude.{◌≡◌, length, IfOk};
 ghost use Rattle.pending_returns.specs.Summary.{Rises};
@@ -9,7 +9,7 @@ use crate::listing::number_of;
 use cob_base::{Items, NoMemory};
 use std::alloc::Global;
 
-/// Of each of so many ranges the place at which it stands among those that are kept.
+/// For each of so many ranges its place among those that are kept.
 pub fn ranks_of(alloc: Global, kept: &[u32], count: usize) -> Result<Vec<u32>, NoMemory>
     requires rises { Rises kept.now }
     requires below { AllBelow count kept.now }
@@ -24,7 +24,7 @@ pub fn ranks_of(alloc: Global, kept: &[u32], count: usize) -> Result<Vec<u32>, N
     Ok(ranks)
 }
 
-/// The same ranges by their new numbers.
+/// These ranges, by their new numbers.
 pub fn renumbered(alloc: Global, ranks: &[u32], calls: &[u32]) -> Result<Items<u32>, NoMemory>
     requires below { AllBelow (length ranks.now) calls.now }
     ensures { IfOk result (λ made. Renumbers ranks.now calls.now made) }

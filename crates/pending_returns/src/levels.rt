@@ -1,10 +1,11 @@
 //! What a range's level comes to, and which ranges return.
 //!
-//! A level's search is `reached`, held against `ComesIn` of `program_points::point_table`;
-//! `returning_ranges` finds the ranges that return, and `calls_of` and `ends_of` tell what a level
-//! performs and whose ends it passes. Marks are made once for all ranges and cleared along the list
-//! of what they are on, so a range's search costs what its level comes to. `laws::table_is_exact`
-//! and `facts_are_exact` say that this is what the flow paths of the program do.
+//! `reached` searches a level, to compare with `ComesIn` of `program_points::point_table`;
+//! `returning_ranges` finds the ranges that return, and `calls_of` and `ends_of` give what a level
+//! performs and whose ends it passes. Marks are made once for all ranges and cleared through the
+//! list of marked places, so the cost of a range's search is the number of places that its level
+//! comes to. `laws::table_is_exact` and `facts_are_exact` say that this is what the flow paths of
+//! the program do.
 
 mod facts;
 pub mod laws;

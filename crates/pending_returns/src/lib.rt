@@ -1,8 +1,9 @@
 //! What a program's ranges perform, whether they return, and whose ends they pass, whatever the
 //! data.
 //!
-//! `summarise` gives it of the ranges that some flow path performs. `specs/Summary.antt` says what
-//! a summary tells, by flow paths; `specs/Tabled.antt` the same of a table of the program's places.
+//! `summarise` gives this for the ranges that some flow path performs. `specs/Summary.antt` says
+//! what a summary means, by flow paths; `specs/Tabled.antt` the same by a table of the program's
+//! places.
 #![tactic(auto)]
 
 mod calling;

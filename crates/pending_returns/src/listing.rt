@@ -1,4 +1,4 @@
-//! Lists of numbers that rise.
+//! Lists of numbers in ascending order.
 
 ghost use Rattle.std.specs.Prelude.{◌≡◌, ◌++◌, ◌∷◌, [], true, false, IfOk, OnOk};
 ghost use Rattle.pending_returns.specs.Tabled.{Lists, Orders, StandOnce};
@@ -6,7 +6,7 @@ ghost use Rattle.pending_returns.specs.Tabled.{Lists, Orders, StandOnce};
 use cob_base::{Items, NoMemory};
 use std::alloc::Global;
 
-/// This number, where it has 32 bits.
+/// This number as a `u32`; out of memory where it needs more bits.
 pub fn number_of(at: usize) -> Result<u32, NoMemory>
     ensures { IfOk result (λ number. number ≡ at) }
 {
@@ -28,7 +28,7 @@ fn add_if(numbers: &mut Items<u32>, flag: bool, at: usize) -> Result<(), NoMemor
     numbers.push(number)
 }
 
-/// The numbers of the flags that are on, rising.
+/// The numbers of the flags that are on, in ascending order.
 pub fn lists(alloc: Global, flags: &[bool]) -> Result<Items<u32>, NoMemory>
     ensures { IfOk result (λ numbers. Lists flags.now numbers) }
 {
@@ -39,7 +39,7 @@ pub fn lists(alloc: Global, flags: &[bool]) -> Result<Items<u32>, NoMemory>
     Ok(numbers)
 }
 
-/// These numbers, rising.
+/// These numbers, in ascending order.
 pub fn rising(alloc: Global, numbers: &[u32]) -> Result<Items<u32>, NoMemory>
     requires once { StandOnce numbers.now }
     ensures { IfOk result (λ sorted. Orders numbers.now sorted) }

@@ -10,7 +10,7 @@ use cob_base::NoMemory;
 use program_points::point_table::Table;
 use std::alloc::Global;
 
-/// Puts a flag on the paragraph of each of these places.
+/// Sets the flag of the paragraph of each of these places.
 pub fn mark_owners(flags: &mut Vec<bool>, owners: &[u32], places: &[u32])
     requires places { AllPlaces (length owners.now) places.now }
     requires owners { OwnersBelow (length flags.old.items) owners.now }
@@ -22,7 +22,7 @@ pub fn mark_owners(flags: &mut Vec<bool>, owners: &[u32], places: &[u32])
     }
 }
 
-/// A flag for each paragraph to which one of these ranges' levels comes.
+/// For each paragraph, whether the level of one of these ranges comes to it.
 pub fn marked_owners(
     alloc: Global,
     table: &Table,

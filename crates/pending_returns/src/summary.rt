@@ -44,15 +44,15 @@ pub fn summary_of(alloc: Global, table: &Table) -> Result<Summary, NoMemory>
     })
 }
 
-/// Past the limit by so many ranges.
+/// The limit on ranges, which this count passes.
 pub fn limit_of(counted: usize) -> SplitFault
     ensures { IsLimit counted result }
 {
     SplitFault::Limit(past(LimitKind::Ranges, false, counted as u64))
 }
 
-/// The summary of a program of at least one paragraph. Limit exactly where its PERFORM statements
-/// name more than 5,000 distinct ranges, main included.
+/// The summary of a program of at least one paragraph. The errors are Limit, exactly where its
+/// PERFORM statements name more than 5,000 distinct ranges, main included, and out of memory.
 pub fn summarise(alloc: Global, program: &Program) -> Result<Summary, SplitFault>
     requires { 0 < length program.now.paragraphs }
     ensures summary { IfOk result (λ summary. IsSummary (never_first_of program.now.files)

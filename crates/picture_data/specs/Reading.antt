@@ -15,23 +15,26 @@ use Rattle.picture_data.specs.declared.reading.Reading.{Reading}
 use Rattle.picture_data.specs.Fault.{fault_at}
 use Rattle.picture_data.specs.Symbols.{symbol_s, symbol_v, symbol_9, symbol_a, symbol_x, behind, added, too_many, picture}
 
+-- before the first byte
 abbrev pub start : Reading
 start = record {
   symbols = record { shape = shapes.Start; whole = 0; part = 0 };
   place = places.Open;
 }
 
--- another byte than those of the grammar is no symbol
+-- the flaw of a byte that may not be there; another byte than those of the grammar is no symbol
 abbrev pub flaw_of : ℕ → Flaw
 flaw_of byte =
     if byte == symbol_s || byte == symbol_v || byte == symbol_9 || byte == symbol_a
     || byte == symbol_x || byte == left_parenthesis || byte == right_parenthesis
     then flaws.Order else flaws.Symbol
 
+-- the symbols so far and where the next byte is, or the flaw
 abbrev pub placed : SymbolPosition → Result Symbols Flaw → Result Reading Flaw
 placed place (Ok symbols) = Ok (record { symbols = symbols; place = place })
 placed place (Err flaw) = Err flaw
 
+-- one symbol more, by what it makes of those before it
 abbrev pub symbol_by : ℕ → Option Shape → Symbols → Result Reading Flaw
 symbol_by byte None symbols = Err (flaw_of byte)
 symbol_by byte (Some shape) symbols =
@@ -39,10 +42,11 @@ symbol_by byte (Some shape) symbols =
     then placed places.Open (added 0 (record symbols { shape = shape }))
     else placed places.Behind (added 1 (record symbols { shape = shape }))
 
--- a symbol, which S and V take no count
+-- the picture so far with one more symbol
 abbrev pub symbol : ℕ → Reading → Result Reading Flaw
 symbol byte reading = symbol_by byte (behind byte reading.symbols.shape) reading.symbols
 
+-- the picture so far, where so many more of the last symbol are allowed, or the flaw
 abbrev pub kept : SymbolPosition → Symbols → Result Symbols Flaw → Result Reading Flaw
 kept place symbols (Ok more) = Ok (record { symbols = symbols; place = place })
 kept place symbols (Err flaw) = Err flaw
@@ -55,16 +59,18 @@ digit count d reading =
     (added (count * 10 + d - 1) reading.symbols)
     else Err (too_many reading.symbols.shape)
 
--- a count is at least 1
+-- the picture so far with a count ended, which is at least 1
 abbrev pub closed : ℕ → Reading → Result Reading Flaw
 closed count reading =
     if count == 0 then Err flaws.Order else placed places.Open (added (count - 1) reading.symbols)
 
+-- a byte within a count: a digit, or its end
 abbrev pub in_count : ℕ → ℕ → Reading → Result Reading Flaw
 in_count count byte reading =
     if nat_le digit_0 byte && nat_le byte digit_9 then digit count (byte - digit_0) reading else
     if byte == right_parenthesis then closed count reading else Err (flaw_of byte)
 
+-- after one byte more, by where it is
 abbrev pub step_by : SymbolPosition → ℕ → Reading → Result Reading Flaw
 step_by places.Open byte reading = symbol byte reading
 step_by places.Behind byte reading =
@@ -72,10 +78,11 @@ step_by places.Behind byte reading =
     else symbol byte reading
 step_by (places.Count count) byte reading = in_count count byte reading
 
--- behind one byte more, its letter in capitals
+-- after one byte more, its letter in capitals
 unfoldable pub step : ℕ → Reading → Result Reading Flaw
 step byte reading = step_by reading.place byte reading
 
+-- the picture, unless a count isn't ended
 abbrev pub finish_by : SymbolPosition → Symbols → Result Picture Flaw
 finish_by (places.Count count) symbols = Err flaws.Order
 finish_by _ symbols = picture symbols
@@ -89,11 +96,12 @@ abbrev pub last_position : ℕ → ℕ
 last_position zero = 1
 last_position (suc n) = suc n
 
+-- the picture, or the flaw at the last byte
 abbrev pub ended : ℕ → Result Picture Flaw → Result Picture PictureFault
 ended count (Ok picture) = Ok picture
 ended count (Err flaw) = Err (fault_at flaw (last_position count))
 
--- reads on behind so many bytes
+-- reads on after so many bytes
 unfoldable pub read_from : ℕ → Result Reading Flaw → List ℕ → Result Picture PictureFault
 read_from count (Err flaw) rest = Err (fault_at flaw count)
 read_from count (Ok reading) [] = ended count (finish reading)

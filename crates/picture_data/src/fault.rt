@@ -1,11 +1,11 @@
-//! Why a text is no picture.
+//! Why a text isn't a picture.
 
 ghost use Rattle.std.specs.Prelude.{◌≡◌};
 ghost use Rattle.picture_data.specs.Fault as faults;
 
 use thiserror::Error;
 
-/// Why a text is no picture, with the byte that decides it, from 1.
+/// Why a text isn't a picture, with the byte that decides it, from 1.
 #[derive(Clone, Copy, Debug, PartialEq, Eq, Error)]
 pub enum PictureFault {
     #[error("byte {0}: no symbol of a picture")]
@@ -25,6 +25,7 @@ pub enum Flaw {
 }
 
 impl Flaw {
+    /// The fault with the byte that decides it, from 1.
     pub fn at(self, byte: u32) -> PictureFault
         ensures { result ≡ faults.fault_at self byte }
     {

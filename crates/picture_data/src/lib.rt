@@ -1,9 +1,9 @@
-//! Pictures: the text behind PIC to what an item holds.
+//! Pictures: from the text after PIC to what an item holds.
 //!
-//! `read_picture` reads numbers (S, 9 and V) and characters (X, A and 9), with counts; hold
-//! `specs/Reading` against ISO 1989:1985, PICTURE clause. Edited pictures aren't read. The byte
-//! that a fault names is the first up to which no picture begins, or the last where more are
-//! needed.
+//! `read_picture` reads numbers (S, 9 and V) and characters (X, A and 9), with counts;
+//! `specs/Reading` is to be compared with ISO 1989:1985, PICTURE clause. Edited pictures aren't
+//! read. The byte that a fault names is the first up to which no picture begins, or the last where
+//! more are needed.
 #![tactic(auto)]
 
 mod fault;

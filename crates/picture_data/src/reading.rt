@@ -7,14 +7,14 @@ use crate::fault::Flaw;
 use crate::symbols::{Shape, Symbols};
 use cob_tree::Picture;
 
-/// Where in a run of a symbol the text stands.
+/// How far the text has come in a run of a symbol.
 #[derive(Clone, Copy, Debug, PartialEq, Eq)]
 pub enum SymbolPosition {
     /// Where no count may come.
     Open,
-    /// Behind a symbol that may have a count.
+    /// After a symbol that may have a count.
     Behind,
-    /// In the count, which is this so far.
+    /// In the count, which has this value so far.
     Count(u32),
 }
 
@@ -26,7 +26,7 @@ pub struct Reading {
 }
 
 impl Reading {
-    /// Before the first byte.
+    /// The reading before the first byte.
     pub fn start() -> Reading
         ensures { result ≡ readings.start }
     {
@@ -40,7 +40,7 @@ impl Reading {
         }
     }
 
-    /// Behind one byte more, its letter in capitals.
+    /// The reading after one more byte, a letter of which is taken in capitals.
     #[tactic(auto, unfolding(crate::specs::Reading::step))]
     pub fn step(self, byte: u8) -> Result<Reading, Flaw>
         ensures { result ≡ readings.step byte self }

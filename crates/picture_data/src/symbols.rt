@@ -1,4 +1,4 @@
-//! What the symbols of a picture say together.
+//! What the symbols of a picture mean together.
 
 ghost use Rattle.std.specs.Prelude.{◌≡◌};
 ghost use Rattle.picture_data.specs.Symbols as symbols;
@@ -13,9 +13,9 @@ pub enum Shape {
     Start,
     /// Nines alone: a number, or characters where an X or A comes.
     Nines,
-    /// Behind an S.
+    /// After an S.
     Signed,
-    /// Behind the V.
+    /// After the V.
     Point { signed: bool },
     /// A alone.
     Letters,
@@ -27,14 +27,14 @@ pub enum Shape {
 #[derive(Clone, Copy, Debug, PartialEq, Eq)]
 pub struct Symbols {
     pub shape: Shape,
-    /// How many of them, behind the V aside.
+    /// How many of them, without those after the V.
     pub whole: u32,
-    /// How many behind the V.
+    /// How many after the V.
     pub part: u32,
 }
 
 impl Shape {
-    /// What a symbol makes of it, where it may come.
+    /// The shape after one more symbol, where that symbol may come.
     pub fn behind(self, symbol: u8) -> Option<Shape>
         ensures { result ≡ symbols.behind symbol self }
     {
@@ -105,7 +105,7 @@ impl Shape {
         }
     }
 
-    /// How many symbols there may be, S and V aside.
+    /// How many symbols there may be, not counting S and V.
     fn most(self) -> u64
         ensures { result ≡ symbols.most self }
     {

@@ -1,7 +1,7 @@
 -- What is answered for a division.
 pub mod Answer
--- What is left of a form behind its first parts.
+-- What is left of a form after its first parts.
 pub mod Step
 -- What a statement that holds others is made of, in boxes, and what is read of it before and
--- behind what it holds, over any readers of operands, references, conditions and names (`Parts`).
+-- after what it holds, over any readers of operands, references, conditions and names (`Parts`).
 pub mod drafts

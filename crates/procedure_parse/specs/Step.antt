@@ -1,4 +1,4 @@
--- What is left of a form of `stmt_forms` behind its first parts: a step of the code each.
+-- What is left of a form of `stmt_forms` after its first parts: a step of the code each.
 use Rattle.std.specs.Prelude.{ℕ, true, List, Some}
 use Rattle.cob_tree.specs.declared.program.Paragraph.{Paragraph}
 use Rattle.parser_combinators.specs.Form.{Form, pure, ◌>>=◌, ◌>>◌, where_next}
@@ -8,7 +8,7 @@ use Rattle.cobol_grammar.specs.stmt_forms.Paragraph as forms
 use Rattle.cobol_grammar.specs.stmt_forms.Part.{Parts}
 use Rattle.cobol_grammar.specs.stmt_forms.Verb.{begins_stmt}
 
--- a section behind its header
+-- a section after its header
 abbrev pub section_behind : {Side Known : Type 0} → Parts Side Known →
     List ℕ → List Paragraph → Form Outline
 section_behind parts name done =
@@ -21,7 +21,7 @@ abbrev pub section_closed : {Side Known : Type 0} → Parts Side Known →
 section_closed parts name state =
     period >> section_behind parts name (forms.with_pending state.pending state.done)
 
--- a paragraph behind its header
+-- a paragraph after its header
 abbrev pub paragraph_behind : {Side Known : Type 0} → Parts Side Known →
     List ℕ → Outline → Form Outline
 paragraph_behind parts name state =

@@ -1,4 +1,4 @@
 -- What a statement is made of.
 pub mod Draft
--- What is read before and behind what it holds.
+-- What is read before and after what it holds.
 pub mod Step

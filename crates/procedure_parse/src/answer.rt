@@ -28,12 +28,13 @@ fn first_fault(earlier: Option<NameFault>, noted: Option<Note>) -> Option<NameFa
     }
 }
 
-/// The paragraphs that all the tokens behind so many of them spell, which are those behind the
-/// header of the division.
+/// The paragraphs that all tokens after the first `from` spell, which are those after the header of
+/// the division.
 ///
-/// Where they spell none, the fault tells why and the line of the first token up to which they
-/// begin no division, or of the last token where more are needed. A name fault, which is the one of
-/// the divisions before or else the first here, is answered only where the whole syntax has none.
+/// Where they spell none, the fault has the reason and the line of the first token up to which they
+/// begin no division, or of the last token where more are needed. A name fault, which is that of
+/// the divisions before or else the first one here, is answered only where the whole syntax has no
+/// fault.
 pub fn parse_procedure<P: Parts>(
     parts: &P,
     alloc: Global,

@@ -2,7 +2,7 @@
 //! (`Parts`).
 //!
 //! `parse_procedure` gives the paragraphs that a list of tokens spells from a place on, or the
-//! first fault with its line. Hold `specs/Answer` against the forms of `stmt_forms` (ISO
+//! first fault with its line. `specs/Answer` is to be compared with the forms of `stmt_forms` (ISO
 //! 1989:1985, PROCEDURE DIVISION). `division` reads exactly by the form of its name.
 #![tactic(auto)]
 

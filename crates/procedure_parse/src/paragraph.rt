@@ -8,8 +8,8 @@ ghost use Rattle.cobol_grammar.specs.stmt_forms.Paragraph as forms;
 ghost use Rattle.procedure_parse.specs.Step as steps;
 
 use crate::drafts::{
-    drop_outline, drop_paragraphs, drop_sentences, drop_stmts, paragraph_added, sentence_added,
-    stmt_added,
+    FoundStmts, drop_outline, drop_paragraphs, drop_sentences, drop_stmts, paragraph_added,
+    sentence_added, stmt_added,
 };
 use crate::statements::{StmtContext, stmts_from, stmts_with};
 use cob_base::limit::MAX_NESTING;
@@ -35,10 +35,10 @@ fn sentence_closed(cursor: &mut Cursor<'_>, stmts: Items<Stmt>) -> Result<Senten
 }
 
 #[tactic(auto, unfolding(cobol_grammar::specs::stmt_forms::Paragraph::sentence_end))]
-fn sentence_end(cursor: &mut Cursor<'_>, found: (Items<Stmt>, bool)) -> Result<Sentence, Unread>
+fn sentence_end(cursor: &mut Cursor<'_>, found: FoundStmts) -> Result<Sentence, Unread>
     ensures { Reads ((forms.sentence_end found).reads cursor.old) result cursor.new }
 {
-    let (stmts, pending_not) = found;
+    let FoundStmts { stmts, pending_not } = found;
     if pending_not {
         drop_stmts(stmts);
         Err(Unread::Stop(Why::Syntax))
@@ -66,7 +66,7 @@ fn sentence<P: Parts>(
     sentence_end(cursor, found)
 }
 
-/// One more sentence.
+/// Reads one more sentence.
 fn sentence_behind<P: Parts>(
     parts: &P,
     alloc: Global,
@@ -129,13 +129,16 @@ fn exit_sentence<P: Parts>(
         result cursor.new }
 {
     let first = exit_behind(cursor, scope, position)?;
-    let stmts = stmt_added(Items::new(alloc), first)?;
+    let first = FoundStmts {
+        stmts: stmt_added(Items::new(alloc), first)?,
+        pending_not: false,
+    };
     let context = StmtContext {
         alloc,
         scope,
         levels: MAX_NESTING,
     };
-    let found = stmts_from(parts, cursor, context, (stmts, false))?;
+    let found = stmts_from(parts, cursor, context, first)?;
     sentence_end(cursor, found)
 }
 
@@ -190,7 +193,7 @@ fn sentences<P: Parts>(
     }
 }
 
-/// With an empty paragraph for a section that has none.
+/// The paragraphs, with an empty one for a section that has none.
 fn with_pending(
     alloc: Global,
     pending: Option<Word>,
@@ -252,7 +255,7 @@ fn section_start<P: Parts>(
     }
 }
 
-/// A section behind its header.
+/// Reads a section after its header.
 fn section_behind<P: Parts>(
     parts: &P,
     alloc: Global,
@@ -274,7 +277,7 @@ fn section_behind<P: Parts>(
     }
 }
 
-/// A section, once the one before it is complete.
+/// Begins a section, once the one before it is complete.
 fn section_begun<P: Parts>(
     parts: &P,
     alloc: Global,
@@ -296,7 +299,7 @@ fn section_begun<P: Parts>(
     }
 }
 
-/// The period of a section's header, and the section.
+/// Takes the period of a section's header, and begins the section.
 fn section_closed<P: Parts>(
     parts: &P,
     alloc: Global,
@@ -338,7 +341,7 @@ fn section<P: Parts>(
     }
 }
 
-/// A paragraph behind its header.
+/// Reads a paragraph after its header.
 fn paragraph_behind<P: Parts>(
     parts: &P,
     alloc: Global,
@@ -561,7 +564,7 @@ fn division_ended(
     }
 }
 
-/// The whole division behind its header, up to the last token.
+/// Reads the whole division after its header, up to the last token.
 #[tactic(auto, unfolding(cobol_grammar::specs::stmt_forms::Paragraph::division))]
 pub fn division<P: Parts>(
     parts: &P,

@@ -2,8 +2,8 @@
 //! (`Parts`).
 //!
 //! Each function reads exactly by the form of its name in `stmt_forms` (ISO 1989:1985, PROCEDURE
-//! DIVISION), which is said by `Reads`. All but the lists of statements are private: they call each
-//! other in a circle.
+//! DIVISION), as `Reads` says. All except the lists of statements are private: they call each other
+//! in a cycle.
 
 mod held;
 

@@ -3,6 +3,7 @@ use Rattle.std.specs.Prelude.{◌+◌, List, [], ◌∷◌}
 use Rattle.control_flow_theory.specs.graph_rules.Families.{Added, Never, Flag, Count, State, Exit}
 use Rattle.procedure_split.specs.declared.report.report.AddedCounts.{AddedCounts}
 
+-- none of any kind
 abbrev pub none_added : AddedCounts
 none_added = record { never = 0; flags = 0; counts = 0; states = 0; exits = 0 }
 
@@ -19,6 +20,6 @@ abbrev pub counted_on : AddedCounts → List Added → AddedCounts
 counted_on counted [] = counted
 counted_on counted (kind ∷ kinds) = counted_on (with_one counted kind) kinds
 
--- so often each kind stands in the list
+-- so often each kind is in the list
 abbrev pub counts_of : List Added → AddedCounts
 counts_of kinds = counted_on none_added kinds

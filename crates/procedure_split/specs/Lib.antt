@@ -18,7 +18,7 @@ pub mod shaped_ranges
 pub mod made_procedures
 -- What a program without a fault is split into is structured and behaves as the program.
 pub mod split_behaviour
--- What it is split into is structured as the tests of the tree tell it: no EXIT stands in it.
+-- What it is split into is structured as the tests of the tree tell it: there is no EXIT in it.
 pub mod split_form
 -- How deep a program nests that is split, where choices have arms.
 pub mod split_depth
@@ -33,7 +33,7 @@ pub mod lowered_arms
 -- A program written of shaped bodies nests no deeper than is judged of these bodies.
 pub mod written_depth
 -- The plan of a program that isn't faulty, by the summary of its ranges: which ranges return, and
--- in which order they stand as procedures.
+-- in which order they come as procedures.
 pub mod plan
 -- What a restructured program's report tells, and its lines.
 pub mod report

@@ -7,11 +7,12 @@ use Rattle.statement_builders.specs.declared.arms.placing.ProcedurePlace.{Proced
 abbrev pub key_of : ProcedurePlace → ℕ
 key_of placed = placed.entry * 2 ^ 32 + placed.exit
 
--- that of a range that has an exit
+-- the place of a range, if it has an exit
 abbrev pub placed_to : ℕ → Option ℕ → ℕ → List ProcedurePlace
 placed_to entry None place = []
 placed_to entry (Some exit) place = record { entry = entry; exit = exit; place = place } ∷ []
 
+-- the place of a range; main has none
 abbrev pub place_at : Range → ℕ → List ProcedurePlace
 place_at range place = placed_to range.entry range.exit place
 

@@ -8,6 +8,7 @@ use Rattle.branch_tree.specs.Tree.{seen_tree}
 use Rattle.added_items.specs.item_table.Row.{CellRange}
 use Rattle.procedure_split.specs.declared.shaped_ranges.shaping.Closed.{Closed}
 
+-- a range with what it was shaped to
 abbrev pub row_of : Range → Closed → CellRange
 row_of range closed = record {
   range = seen_range range;

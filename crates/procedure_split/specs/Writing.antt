@@ -40,24 +40,33 @@ abbrev pub added_entries : Program → List Range → List Closed → List CellE
 added_entries program order closed =
     entries_for (table_of (program_words program)) (rows_of order closed)
 
--- its entries stand behind the program's own, and its paragraphs are those of the ranges, by the
+-- its entries follow the program's own, and its paragraphs are those of the ranges, by the
 -- items of their cells and the places of all procedures
 pub record IsWrittenFrom (program : Program) (order : List Range) (closed : List Closed)
     (made : Program) : Type 0 where
   pub name : made.name ≡ program.name
   pub files : made.files ≡ program.files
+  -- its entries are the program's, and after them those of the added items
   pub entries : made.entries
       ≡ program.entries ++ entries_of (added_entries program order closed)
+  -- for each range the items of its cells
   pub cells : List (List CellItem)
+  -- each cell has its item
   pub items : AreCellItems (length program.entries) (rows_of order closed) cells
+  -- the places of the procedures
   pub places : List ProcedurePlace
+  -- each range has its place
   pub placed : ArePlacesIn order places
+  -- there are as many of each as ranges
   pub many : AreAsMany order closed cells (names_of program order)
+  -- its paragraphs are those of the ranges
   pub paragraphs :
       AreParagraphsOf order closed cells places (names_of program order) made.paragraphs
 
 -- and so many items of each kind are added: one for each entry
 pub record IsWrittenWith (program : Program) (order : List Range) (closed : List Closed)
     (split : Split) : Type 0 where
+  -- the result is written so
   pub written : IsWrittenFrom program order closed split.program
+  -- so many items of each kind are added
   pub added : split.added ≡ counts_of (item_kinds (rows_of order closed))

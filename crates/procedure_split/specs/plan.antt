@@ -2,5 +2,5 @@
 pub mod Planned
 -- the plan, by flow paths
 pub mod Laws
--- orders in which each number stands before those that it calls
+-- orders in which each number comes before those that it calls
 pub mod Ordered

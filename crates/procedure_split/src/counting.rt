@@ -23,7 +23,7 @@ fn none_added() -> AddedCounts
     }
 }
 
-/// One more, where it has 32 bits.
+/// One more; out of memory where that needs more than 32 bits.
 fn one_more(number: u32) -> Result<u32, NoMemory>
     ensures { IfOk result (λ more. more ≡ number + 1) }
 {

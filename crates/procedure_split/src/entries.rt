@@ -11,7 +11,7 @@ use cob_base::{Copied, Items, NoMemory};
 use cob_tree::Entry;
 use std::alloc::Global;
 
-/// A program's own entries, and behind them those of added items.
+/// A program's own entries, and after them those of added items.
 pub fn entries_with(
     alloc: Global,
     own: &Items<Entry>,

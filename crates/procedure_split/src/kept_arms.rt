@@ -1,4 +1,4 @@
-//! The rules of restructuring keep the arms of choices: so what a program is split into nests
+//! The rules of restructuring keep the arms of choices. So what a program is split into nests
 //! within the limit on what its ranges are shaped to, where the choices of its graphs have arms.
 //! Nothing here runs.
 

@@ -1,9 +1,9 @@
-//! The structured program that a program is restructured to: for each range of its plan a
-//! paragraph of one sentence, and behind its own entries those of the added items.
+//! The structured program that a program is restructured to: a paragraph of one sentence for each
+//! range of its plan, and its own entries with those of the added items after them.
 //!
-//! `split` makes it of a program and the summary of its ranges, which say that no flow path faults
-//! (`specs/Splitting.antt`), and counts the items that are added (`specs/Counting.antt`).
-//! `specs/Writing.antt` says what is written of shaped ranges.
+//! `split` makes it from a program and the summary of its ranges, which shows that no flow path
+//! comes to a fault (`specs/Splitting.antt`), and counts the added items (`specs/Counting.antt`).
+//! `specs/Writing.antt` says what is written for shaped ranges.
 #![tactic(auto)]
 
 pub mod counter_serving;

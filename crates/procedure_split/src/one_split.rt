@@ -3,8 +3,8 @@
 
 ghost use Rattle.procedure_split.specs.one_split.Laws.{SplitsAreOne};
 
-/// What a program without a fault is split into is one program, and where it passes a limit before,
-/// it is one limit.
+/// What a program without a fault is split into is one program; where it passes a limit instead, it
+/// is one limit.
 pub fn splits_are_one()
     ensures { SplitsAreOne }
 {}

@@ -3,7 +3,7 @@
 
 ghost use Rattle.procedure_split.specs.one_summary.Laws.{SummariesAreOne};
 
-/// Two summaries of one program tell the same of the same ranges.
+/// Two summaries of one program say the same about the same ranges.
 pub fn summaries_are_one()
     ensures { SummariesAreOne }
 {}

@@ -76,7 +76,7 @@ fn take_tree(alloc: Global, closed: &mut Closed) -> Tree
 }
 
 /// The paragraphs of these ranges, in their order, each with the items of its cells and its name.
-/// Err where `write_procedure` has it.
+/// Err where `write_procedure` answers one.
 pub fn paragraphs_of(
     alloc: Global,
     order: &[Range],

@@ -1,4 +1,4 @@
-//! Where the procedures of a program's ranges stand.
+//! The places of the procedures of a program's ranges.
 
 ghost use Rattle.std.specs.Prelude.{◌≡◌, ◌++◌, ◌*◌, ◌+◌, IfOk, OnOk};
 ghost use Rattle.std.specs.List.Sorted.{IsNonDecreasingBy, IsPermutation};
@@ -10,7 +10,7 @@ use cob_tree::Range;
 use statement_builders::arms::ProcedurePlace;
 use std::alloc::Global;
 
-/// A number that is less for a smaller entry, and for a smaller exit at the same entry.
+/// A sort key: less for a smaller entry, and at the same entry for a smaller exit.
 fn key_of(placed: ProcedurePlace) -> u64
     ensures { result ≡ key_of placed }
 {
@@ -50,8 +50,8 @@ fn places_from(alloc: Global, order: &[Range]) -> Result<Vec<ProcedurePlace>, No
     Ok(places)
 }
 
-/// The places of the procedures of these ranges, but main's, by entry and then by exit. Err where
-/// memory is wanted, or the ranges have no numbers of 32 bits.
+/// The places of the procedures of these ranges, except main's, by entry and then by exit. Err
+/// where memory runs out, or there are more ranges than 32 bits number.
 pub fn places_of(alloc: Global, order: &[Range]) -> Result<Vec<ProcedurePlace>, NoMemory>
     ensures places { IfOk result (λ places. ArePlacesIn order.now places.items) }
     ensures all { IfOk result (λ places. IsPermutation (places_from 0 order.now) places.items) }

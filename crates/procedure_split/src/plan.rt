@@ -1,9 +1,9 @@
 //! The plan of a program that isn't faulty, by the summary of its ranges: which ranges return, and
-//! in which order they stand as procedures.
+//! the order of their procedures.
 //!
-//! `plan_of` gives both: the table of returning ranges as lowering is told of them, and the ranges
-//! that are performed from main on, main first, then always the lowest all of whose callers stand.
-//! `specs/plan/Planned.antt` says it by the summary, `specs/plan/Laws.antt` by flow paths.
+//! `plan_of` gives both: the table of returning ranges, as lowering takes it, and the ranges that
+//! are performed from main on, main first, then always the lowest one whose callers have all been
+//! taken. `specs/plan/Planned.antt` says this by the summary, `specs/plan/Laws.antt` by flow paths.
 
 mod laws;
 mod plan;

@@ -1,9 +1,9 @@
-//! What a restructured program's report tells, and its lines.
+//! What a restructured program's report says, and its lines.
 //!
 //! `report_of` gives the report of a program, by the summary of its ranges and by how many items
-//! are added; hold `specs/report/Report.antt` against it, a clause a line of the report.
-//! `report_text` gives the lines; `specs/report/Lines.antt` says what each is. A program has one
-//! report alone (`programs_have_one_report`), and one is spelled out (`a_report_reads_so`).
+//! are added; `specs/report/Report.antt` has a clause for each line of the report. `report_text`
+//! gives the lines; `specs/report/Lines.antt` says what each is. A program has only one report
+//! (`programs_have_one_report`), and an example is spelled out (`a_report_reads_so`).
 
 mod laws;
 mod lines;

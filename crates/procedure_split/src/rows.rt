@@ -1,4 +1,4 @@
-//! The shaped ranges, as their cells are given items.
+//! The shaped ranges, in the form in which their cells get items.
 
 ghost use Rattle.std.specs.Prelude.{◌≡◌, length, IfOk};
 ghost use Rattle.added_items.specs.item_table.Seen.{seen_cells, seen_ranges};

@@ -3,8 +3,8 @@
 //!
 //! `lower_ranges` gives the graphs, within the limit on their labels and statements (`Graphs.antt`
 //! and `Limit.antt` in `specs/shaped_ranges`), and `shape_all` what they are shaped to
-//! (`Shaped.antt`). That a program that isn't faulty is so planned as the headline asks is the law
-//! `ranges_are_planned`.
+//! (`Shaped.antt`). The law `ranges_are_planned` says that a program that isn't faulty is planned
+//! in this way as the headline requires.
 
 mod graphing;
 mod laws;

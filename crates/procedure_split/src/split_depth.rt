@@ -1,14 +1,15 @@
-//! How deep a program nests that is split: within the limit on what its ranges are shaped to, where
-//! their choices have arms. Nothing here runs.
+//! How deep a split program nests: within the limit on what its ranges are shaped to, where their
+//! choices have arms. Nothing here runs.
 
 ghost use Rattle.procedure_split.specs.split_depth.Laws.{NamedStatementsHaveArms, SplitProgramsNestWithin, WrittenStmtsNestAsJudged};
 
-/// What is written of a body whose choices have arms nests just as deep as is judged of it.
+/// What is written of a body whose choices have arms nests exactly as deep as the body is judged
+/// to.
 pub fn written_stmts_nest_as_judged()
     ensures { WrittenStmtsNestAsJudged }
 {}
 
-/// The choices of statements that are as they are read have arms.
+/// The choices of statements such as reading gives have arms.
 pub fn named_statements_have_arms()
     ensures { NamedStatementsHaveArms }
 {}

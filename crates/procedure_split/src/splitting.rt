@@ -1,4 +1,4 @@
-//! A program is split into its procedures.
+//! Splits a program into its procedures.
 
 ghost use Rattle.std.specs.Prelude.{MatchResult};
 ghost use Rattle.procedure_split.specs.shaped_ranges.Laws.{HasFlow};
@@ -12,9 +12,9 @@ use pending_returns::Summary;
 use std::alloc::Global;
 
 /// The structured program that a program without a fault is restructured to, by the summary of its
-/// ranges, and how many items are added. Limit exactly where the graphs of its ranges have more than
-/// 500,000 labels and statements, or else one of them is shaped to a body that nests deeper than 500
-/// levels.
+/// ranges, and how many items are added. The errors are Limit, exactly where the graphs of its
+/// ranges have more than 500,000 labels and statements, or else one of them is shaped to a body
+/// that nests deeper than 500 levels, and out of memory.
 pub fn split(alloc: Global, program: &Program, summary: &Summary) -> Result<Split, SplitFault>
     requires { HasFlow program.now summary.now }
     ensures { MatchResult result (IsSplitWith program.now summary.now)

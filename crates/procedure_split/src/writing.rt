@@ -1,4 +1,4 @@
-//! What is written of shaped ranges.
+//! Writes the program of shaped ranges.
 
 ghost use Rattle.std.specs.Prelude.{◌≡◌, ◌++◌, ◌+◌, ◌<◌, ◌^◌, length, map, IfOk, IsTrue};
 ghost use Rattle.cob_base.specs.Answers.{Makes};
@@ -20,17 +20,17 @@ use cob_tree::{Paragraph, Program, Range};
 use out_names::{names, word_table};
 use std::alloc::Global;
 
-/// Lists of a program that are as long or longer are out of memory.
+/// A program with a list of this length or longer is out of memory.
 const MOST: usize = 1 << 28;
 
-/// A program that another one is split into, and how many items of each kind it has that are added.
+/// A program that another one is split into, and how many added items of each kind it has.
 #[derive(Drop)]
 pub struct Split {
     pub program: Program,
     pub added: AddedCounts,
 }
 
-/// Whether its words and procedures have numbers of 32 bits.
+/// Whether 32 bits suffice to number its words and procedures.
 #[tactic(auto, using(crate::proofs::WordCounts::word_count))]
 fn is_small(program: &Program, order: &[Range]) -> bool
     ensures entries { IsTrue result → length program.now.entries < 2 ^ 28 }
@@ -80,7 +80,7 @@ fn with_parts(
     }
 }
 
-/// The program with these paragraphs, and with entries for these items, which are counted.
+/// The program with these paragraphs, and with entries for these added items, which are counted.
 fn split_of(
     alloc: Global,
     program: &Program,
@@ -102,8 +102,8 @@ fn split_of(
 }
 
 /// The program whose procedures are these ranges, which were shaped to these bodies, with how many
-/// items are added. Err where memory, places below 2^32, numbers or items are wanted, and where a
-/// statement of the program has a word on an added item.
+/// items are added. Err where memory runs out, where 32 bits don't suffice to number its parts,
+/// where a cell has no item, and where a statement of the program has a word on an added item.
 pub fn write_program(
     alloc: Global,
     program: &Program,

@@ -1,5 +1,5 @@
-//! How deep a program nests that is written of shaped bodies: no deeper than is judged of these
-//! bodies before they are written. Nothing here runs.
+//! How deep a program that is written of shaped bodies nests: no deeper than these bodies are
+//! judged to before they are written. Nothing here runs.
 
 ghost use Rattle.procedure_split.specs.written_depth.Laws.{ProgramsNestAsControl, StatementsNestAsControl, WrittenBodiesNestAsJudged, WrittenProgramsNestWithin};
 
@@ -13,12 +13,12 @@ pub fn programs_nest_as_control()
     ensures { ProgramsNestAsControl }
 {}
 
-/// What is written of a body nests at most as deep as is judged of it.
+/// What is written of a body nests at most as deep as the body is judged to.
 pub fn written_bodies_nest_as_judged()
     ensures { WrittenBodiesNestAsJudged }
 {}
 
-/// No program that is written of procedures nests deeper than is judged of them.
+/// No program that is written of procedures nests deeper than these are judged to.
 pub fn written_programs_nest_within()
     ensures { WrittenProgramsNestWithin }
 {}

@@ -6,7 +6,7 @@ pub mod whole_counts
 -- How many terms the largest condition or expression of a program has, and the limit on them that
 -- holds of the result.
 pub mod term_counts
--- Which statements can't complete, and lists that are cut behind them.
+-- Which statements can't complete, and lists that are cut after them.
 pub mod completion
--- Whether a statement is one of the program's own, in which no word on an added item stands.
+-- Whether a statement is one of the program's own, without a word on an added item.
 pub mod own_items

@@ -1,4 +1,4 @@
--- what lowering is told
+-- what lowering knows
 pub mod FlowFacts
 -- what a statement is after cutting
 pub mod Facts

@@ -1,4 +1,4 @@
 -- tmp
 pub mod Owning
--- what stands in the arms of a statement
+-- what is in the arms of a statement
 pub mod Within

@@ -1,9 +1,10 @@
-//! Which statements can't complete, and lists that are cut behind them.
+//! Which statements can't complete, and lists that are cut after them.
 //!
-//! Lowering is told which ranges return and which files have no status item
-//! (`specs/completion/FlowFacts`). What a statement is then, when it is cut, is
-//! `specs/completion/Facts`: hold it against the rule that a list ends behind its first statement
-//! that can't complete, nested ones too (`control_flow_theory/specs/lowering/Completes`).
+//! Lowering knows which ranges return and which files have no status item
+//! (`specs/completion/FlowFacts`). What a statement, once it is cut, then is
+//! `specs/completion/Facts` says: it is to be compared with the rule that a list, also a nested
+//! one, ends after its first statement that can't complete
+//! (`control_flow_theory/specs/lowering/Completes`).
 
 mod cutting;
 mod facts;

@@ -1,9 +1,9 @@
-//! Static facts on programs, which lowering, writing and the laws ask for.
+//! Static facts on programs, which lowering, writing and the laws need.
 //!
 //! `well_scoped`: what is named is there; `whole_counts`: counts are whole numbers; `term_counts`:
 //! how large conditions and expressions are; `completion`: which statements can't complete, and
-//! lists that end behind them; `own_items`: no word on an added item stands in a statement. What
-//! has code answers exactly by the definition of its name in `specs`.
+//! lists that end after them; `own_items`: a statement holds no word on an added item. What has
+//! code answers exactly by the definition of its name in `specs`.
 #![tactic(auto)]
 
 pub mod completion;

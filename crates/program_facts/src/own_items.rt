@@ -1,7 +1,7 @@
-//! Whether a statement is one of the program's own, in which no word on an added item stands.
+//! Whether a statement is one of the program's own, which hold no word on an added item.
 //!
-//! `OwnStmt` of `control_flow_theory/specs/language/Own.antt` says it of what control sees of the
-//! statement.
+//! `OwnStmt` of `control_flow_theory/specs/language/Own.antt` says this about the statement's
+//! control.
 
 mod owning;
 mod statement;

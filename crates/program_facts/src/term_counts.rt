@@ -2,9 +2,9 @@
 //! holds of the result.
 //!
 //! Leaves, NOTs and unary signs are terms. A window in an expression or condition adds its terms to
-//! it; elsewhere it has one expression or two of its own (`specs/term_counts/Expression.antt`).
-//! Hold `specs/term_counts/Program.antt` against the limits in docs/LANGUAGE.md. Nothing here takes
-//! memory.
+//! it; elsewhere it has one or two expressions of its own (`specs/term_counts/Expression.antt`).
+//! `specs/term_counts/Program.antt` is to be compared with the limits in docs/LANGUAGE.md. Nothing
+//! here allocates.
 
 mod condition;
 mod expression;

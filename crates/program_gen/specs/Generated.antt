@@ -22,7 +22,7 @@ use Rattle.cob_tree.specs.declared.program.Program.{Program}
 
 -- ---- the sequence
 
--- the number behind this one
+-- the number after this one
 abbrev pub next_of : ℕ → ℕ
 next_of x = (1103515245 * x + 12345) % 2 ^ 31
 
@@ -32,10 +32,11 @@ picked x = 1 + (x / 65536) % 4
 
 -- ---- what the paragraphs say
 
--- the item C, the program's only one
+-- the item C as a place, the program's only item
 abbrev pub counter : Place
 counter = roll-Place (record { item = 0; of = []; subs = []; window = None })
 
+-- the number as a literal
 abbrev pub whole : ℕ → Number
 whole n = record { negative = false; digits = decimal n; scale = 0 }
 
@@ -65,13 +66,15 @@ jump_below bound to =
     If (Relation (Leaf (operand.Place counter)) Less (Leaf (operand.Number (whole bound))))
     (Go to ∷ []) []
 
+-- a sentence of one statement
 abbrev pub sentence : Stmt → Sentence
 sentence stmt = record { stmts = stmt ∷ [] }
 
+-- a paragraph of this name, in no section
 abbrev pub paragraph : List ℕ → List Sentence → Paragraph
 paragraph name sentences = record { name = Some name; section = None; sentences = sentences }
 
--- ---- a group: its number counts from 1, and its paragraphs stand from the place 4 * group - 3 on
+-- ---- a group: its number counts from 1, and its paragraphs are from the place 4 * group - 3 on
 
 -- G-group-number
 abbrev pub group_word : (group number : ℕ) → List ℕ
@@ -83,10 +86,11 @@ jumping group number x =
     paragraph (group_word group number)
     (sentence count_one ∷ sentence (jump_below (10 * group) (4 * group - 4 + picked x)) ∷ [])
 
+-- the last paragraph of a group, which is EXIT
 abbrev pub leaving : ℕ → Paragraph
 leaving group = paragraph (group_word group 4) (sentence Exit ∷ [])
 
--- three that jump, by the three numbers behind x, and one that leaves
+-- three that jump, by the three numbers after x, and one that leaves
 abbrev pub group_of : (group x : ℕ) → List Paragraph
 group_of group x =
     jumping group 1 (next_of x) ∷ jumping group 2 (next_of (next_of x))
@@ -116,7 +120,7 @@ main_of n =
     (performs_of n 1
     ++ sentence (Display (operand.Place counter ∷ []) true) ∷ sentence StopRun ∷ [])
 
--- n groups, whose sequence begins behind n
+-- n groups, whose sequence begins after n
 abbrev pub generated : ℕ → Program
 generated n = record {
   name = codes "GEN-" ++ decimal n;

@@ -2,7 +2,7 @@
 use Rattle.std.specs.Prelude.{◌≡◌, [], ◌∷◌}
 use Rattle.program_gen.specs.Generated.{group_of, leaving, sentence, count_one, jump_below, paragraph, group_word}
 
--- the jumps of the first group of the program of 1: its paragraphs stand from place 1 on
+-- the jumps of the first group of the program of 1: its paragraphs are from place 1 on
 abbrev pub FirstGroupsJumps : Type 0
 FirstGroupsJumps =
     group_of 1 1

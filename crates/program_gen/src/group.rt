@@ -9,14 +9,14 @@ use cob_base::{Items, NoMemory};
 use cob_tree::Paragraph;
 use std::alloc::Global;
 
-/// The number behind this one in the sequence.
+/// The number after this one in the sequence.
 fn next_of(x: u32) -> u32
     ensures { result ≡ next_of x }
 {
     ((1103515245 * x as u64 + 12345) % 2147483648) as u32
 }
 
-/// Adds a group; gives the last number that it used.
+/// Adds a group, and answers the last number that it used.
 fn push_group(
     alloc: Global,
     paragraphs: &mut Items<Paragraph>,
@@ -38,7 +38,7 @@ fn push_group(
     Ok(third)
 }
 
-/// Adds so many groups, by the sequence that begins behind their number.
+/// Adds so many groups, by the sequence that begins after their number.
 pub fn push_groups(alloc: Global, paragraphs: &mut Items<Paragraph>, n: u32) -> Result<(), NoMemory>
     requires { n ≤ 1249 }
     ensures { OnOk result (paragraphs.new ≡ paragraphs.old ++ groups_of n 1 n) }

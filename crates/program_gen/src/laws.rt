@@ -2,8 +2,8 @@
 
 ghost use Rattle.program_gen.specs.Laws.{FirstGroupsJumps};
 
-/// In the program of 1 the first two paragraphs of the group go to its third, and the third to its
-/// second.
+/// In the generated program of 1 the first two paragraphs of the group go to its third, and the
+/// third to its second.
 pub fn first_group_goes_to_its_third_third_and_second()
     ensures { FirstGroupsJumps }
 {}

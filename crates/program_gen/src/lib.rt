@@ -1,8 +1,8 @@
 //! Programs full of jumps, one for each number, to try restructuring on.
 //!
-//! `generate` gives exactly the program of `specs/Generated`, which says it part by part: hold the
-//! sequence of numbers, the names and the jumps against it. No law speaks of what such a program
-//! shows when it runs.
+//! `generate` gives exactly the program of `specs/Generated`, which defines it part by part: the
+//! sequence of numbers, the names and the jumps. No law is about what such a program shows when it
+//! runs.
 #![tactic(auto)]
 
 ghost use Rattle.std.specs.Prelude.{◌<◌, ◌≤◌};
@@ -22,7 +22,8 @@ use cob_tree::Program;
 use cob_words::numbered::numbered;
 use std::alloc::Global;
 
-/// The program of a number: so many groups of four paragraphs, of which three jump about.
+/// The program of a number: so many groups of four paragraphs, three of which jump within the
+/// group.
 pub fn generate(alloc: Global, n: u32) -> Result<Program, NoMemory>
     requires low { 1 ≤ n }
     requires high { n ≤ 1249 }

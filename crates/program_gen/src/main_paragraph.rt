@@ -35,7 +35,7 @@ fn performs_of(alloc: Global, n: u32) -> Result<Items<Sentence>, NoMemory>
     Ok(sentences)
 }
 
-/// It performs each group, shows the counter and stops.
+/// The paragraph that performs each group, shows the counter and stops.
 pub fn main_of(alloc: Global, n: u32) -> Result<Paragraph, NoMemory>
     requires { n ≤ 1249 }
     ensures { Makes (main_of n) result }

@@ -1,4 +1,4 @@
-//! What the paragraphs say.
+//! The parts of the paragraphs.
 
 ghost use Rattle.std.specs.Prelude.{◌≡◌, ◌≤◌, ◌<◌, ◌∷◌, [], Some};
 ghost use Rattle.cob_base.specs.Answers.{Makes};
@@ -12,7 +12,7 @@ use cob_tree::{
 use cob_words::numbered::{capital_word, numbered, numbered_text};
 use std::alloc::Global;
 
-/// A list of this item alone.
+/// A list of one item.
 pub fn single<T: Drop>(alloc: Global, item: T) -> Result<Items<T>, NoMemory>
     ensures { Makes (item ∷ []) result }
 {
@@ -121,7 +121,7 @@ fn group_word(alloc: Global, group: u32, number: u32) -> Result<Word, NoMemory>
     numbered(alloc, stem.as_slice(), number)
 }
 
-/// A paragraph that counts, and goes on by what the number picks while the counter is low.
+/// A paragraph that counts, and while the counter is low goes to what the number picks.
 pub fn jumping(alloc: Global, group: u32, number: u32, x: u32) -> Result<Paragraph, NoMemory>
     requires low { 1 ≤ group }
     requires high { group ≤ 1249 }

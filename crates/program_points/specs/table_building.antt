@@ -1,2 +1,2 @@
--- what is told of a program's places while they are numbered
+-- what is known of a program's places while they are numbered
 pub mod Numbering

@@ -1,8 +1,8 @@
 //! Flow paths here and in the theory of control are the same.
 //!
-//! The theory's flow paths are runs of the source machine over ways in place of data; those of
-//! `program_points::paths` are steps between few points, which code can number. There is no code
-//! here: each function states a law.
+//! The theory's flow paths are runs of the source machine in which given ways take the place of
+//! data; those of `program_points::paths` are steps between finitely many points, which code can
+//! number. There is no code here: each function states a law.
 
 ghost use Rattle.program_points.specs.machine_paths.Laws.{FaultyIsTheTheorys, LevelsAreTheTheorys};
 

@@ -1,8 +1,8 @@
 //! A program's places, numbered: the tree to a table.
 //!
-//! The first places are the starts of the paragraphs, and those behind them their ends; lists are
-//! numbered from their last statement back, so that each place behind is known.
-//! `specs/numbering/Build.antt` says what the places that are added have to be.
+//! The first places are the starts of the paragraphs, and the next ones their ends; lists are
+//! numbered from their last statement to the first, so that the place after each is known.
+//! `specs/numbering/Build.antt` says what the added places have to be.
 
 mod build;
 mod kind;

@@ -1,7 +1,7 @@
 //! The ranges that the PERFORM statements of a program name.
 //!
 //! `specs/perform_ranges/Named.antt` says which they are. `ranges_of` gives main and each of them
-//! once, so that a range's number is found by halving.
+//! once, in order, so that a range's number is found by binary search.
 
 mod named;
 mod rising;

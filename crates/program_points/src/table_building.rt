@@ -1,8 +1,8 @@
 //! A whole program's places, by number.
 //!
-//! `table_of` numbers a program: the table that it gives is one of the program, as
-//! `program_points::point_table` has it, and tidy. `specs/table_building/Numbering.antt` says what
-//! is told when the paragraphs from one on are done.
+//! `table_of` numbers a program: the table that it gives belongs to the program, as
+//! `program_points::point_table` has it, and is tidy. `specs/table_building/Numbering.antt` says
+//! what holds when the paragraphs from one on are done.
 
 mod begin;
 mod finish;

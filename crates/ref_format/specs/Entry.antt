@@ -11,33 +11,37 @@ is_comment card =
     indicator card == asterisk || indicator card == slash
     || indicator card == capital_d || indicator card == small_d
 
--- the word, which is in capitals, stands in front of the text, in either case
+-- the word, which is in capitals, is in front of the text, in either case
 abbrev pub starts_folded : (word text : List ℕ) → Bool
 starts_folded [] text = true
 starts_folded (w ∷ word) [] = false
 starts_folded (w ∷ word) (b ∷ text) = to_ascii_uppercase b == w && starts_folded word text
 
--- one of the words stands in front of the text
+-- one of the words is in front of the text
 abbrev pub starts_one : List (List ℕ) → List ℕ → Bool
 starts_one words text = list_any (λ word. starts_folded word text) words
 
--- the first byte that is no space stands in columns 8 to 11, and there begins one of the words
+-- the line begins with one of the words: its first byte that is no space is in columns 8 to 11, and
+-- there the word begins
 abbrev pub begins_one : List (List ℕ) → List ℕ → Bool
 begins_one words card =
     not (is_blank (columns 8 11 card)) && starts_one words (unspaced (columns 8 72 card))
 
+-- the words that begin the header of a division after the first
 unfoldable pub division_headers : List (List ℕ)
 division_headers = codes "ENVIRONMENT " ∷ codes "DATA " ∷ codes "PROCEDURE " ∷ []
 
+-- the words that begin a comment entry
 unfoldable pub comment_headers : List (List ℕ)
 comment_headers =
     codes "AUTHOR." ∷ codes "INSTALLATION." ∷ codes "DATE-WRITTEN." ∷ codes "DATE-COMPILED."
     ∷ codes "SECURITY." ∷ codes "REMARKS." ∷ []
 
--- behind this line no comment entry begins
+-- the line begins a division, after which no comment entry begins
 abbrev pub is_division : List ℕ → Bool
 is_division card = is_ordinary card && begins_one division_headers card
 
+-- the line begins a comment entry, where no division header is before it
 abbrev pub is_comment_header : List ℕ → Bool
 is_comment_header card = is_ordinary card && begins_one comment_headers card
 
@@ -45,7 +49,7 @@ is_comment_header card = is_ordinary card && begins_one comment_headers card
 abbrev pub entry_goes_on : List ℕ → Bool
 entry_goes_on card = is_comment card || is_blank (columns 8 11 card)
 
--- a comment entry begins with this line, behind those lines
+-- a comment entry begins with this line, after those lines
 abbrev pub begins_entry : List (List ℕ) → List ℕ → Bool
 begins_entry before card = is_comment_header card && not (list_any is_division before)
 
@@ -59,11 +63,11 @@ in_entry (card ∷ before) = begins_entry before card || (entry_goes_on card && 
 abbrev pub is_without_text : List ℕ → Bool
 is_without_text card = is_comment card || is_blank (columns 7 72 card)
 
--- the line is dropped, where these stand before it, the last first
+-- the line is dropped, where these come before it, the last first
 abbrev pub is_dropped : List (List ℕ) → List ℕ → Bool
 is_dropped before card = is_without_text card || in_entry (card ∷ before)
 
--- none of these lines begins a comment entry, where `over` says that a division header stands
+-- none of these lines begins a comment entry, where `over` says that a division header comes
 -- before them
 abbrev pub NoEntry : (over : Bool) → List (List ℕ) → Type 0
 NoEntry over [] = Unit {0}

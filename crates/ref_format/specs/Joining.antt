@@ -16,13 +16,15 @@ use Rattle.ref_format.specs.Placed.{placed, bytes_of}
 
 -- ---- literals
 
--- a mark opens a literal and the same mark closes it; so does a line's end
+-- the literal that is open after one byte more: a mark opens one and the same mark closes it; so
+-- does a line's end
 abbrev pub behind_byte : Literal → ℕ → Literal
 behind_byte Closed b =
     if b == quote then InQuotes else if b == apostrophe then InApostrophes else Closed
 behind_byte InQuotes b = if b == quote || b == line_feed then Closed else InQuotes
 behind_byte InApostrophes b = if b == apostrophe || b == line_feed then Closed else InApostrophes
 
+-- the literal that is open after these bytes
 abbrev pub behind : Literal → List ℕ → Literal
 behind literal [] = literal
 behind literal (b ∷ bs) = behind (behind_byte literal b) bs
@@ -31,7 +33,7 @@ behind literal (b ∷ bs) = behind (behind_byte literal b) bs
 abbrev pub literal_at_end : List Placed → Literal
 literal_at_end text = behind Closed (bytes_of text)
 
--- a mark that could open a literal stands among the bytes
+-- a mark that could open a literal is among the bytes
 abbrev pub has_mark : List ℕ → Bool
 has_mark bytes = list_any (λ b. b == quote) bytes || list_any (λ b. b == apostrophe) bytes
 
@@ -61,13 +63,13 @@ abbrev pub line_end : Option ℕ → List Placed
 line_end None = []
 line_end (Some number) = placed number (line_feed ∷ [])
 
--- this text with a continuation behind it
+-- this text with a continuation after it
 abbrev pub with_continuation : List Placed → Line → List Placed
 with_continuation text line =
     trimmed (literal_at_end text) text
     ++ placed line.number (continuing (literal_at_end text) line.card)
 
--- this text, whose last kept line is `last`, with a line behind it
+-- this text, whose last kept line is `last`, with a line after it
 abbrev pub with_line : Option ℕ → List Placed → Line → List Placed
 with_line last text line =
     if is_continuation line.card
@@ -89,7 +91,7 @@ is_bad_continuation last literal card =
     is_none last || not (is_blank (columns 8 11 card)) || is_blank (columns 12 72 card)
     || lacks_mark literal (unspaced (columns 12 72 card))
 
--- the fault of a kept line, behind this kept line and within this literal
+-- the fault of a kept line, after this kept line and within this literal
 abbrev pub fault_of : Option ℕ → Literal → Line → Option FormatFault
 fault_of last literal line =
     if not (is_ordinary line.card || is_continuation line.card) then Some (BadIndicator line.number)
@@ -106,7 +108,7 @@ abbrev pub joined_or : {A : Type 0} → Option FormatFault → Result A FormatEr
 joined_or (Some fault) rest = Err (Fault fault)
 joined_or None rest = rest
 
--- this text, whose last kept line is `last`, with these lines behind it, or their first fault
+-- this text, whose last kept line is `last`, with these lines after it, or their first fault
 abbrev pub joined : Option ℕ → List Placed → List Line → Result (List Placed) FormatError
 joined last text [] = Ok text
 joined last text (line ∷ lines) =
@@ -121,5 +123,7 @@ program_text bytes = joined None [] (kept_lines bytes)
 
 -- the literal is the one that is open at the text's end, and the text begins with a kept line
 pub record IsSound (joining : Joining) : Type 0 where
+  -- the literal is the one that is open at the end
   pub open_at_end : joining.literal ≡ literal_at_end joining.text.items
+  -- without a kept line there is no text
   pub begins : joining.last ≡ None → joining.text.items ≡ []

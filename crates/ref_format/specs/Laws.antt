@@ -8,16 +8,17 @@ use Rattle.ref_format.specs.Joining.{program_text}
 use Rattle.ref_format.specs.Plain.{IsPlainLine, plain_line, laid}
 use Rattle.ref_format.specs.Row.{Row, Begins, row_line, AreRows, text_of_rows}
 
+-- the numbers of the kept lines of a source
 abbrev pub kept_numbers : List ℕ → List ℕ
 kept_numbers bytes = map (λ line. line.number) (kept_lines bytes)
 
--- each byte stands on a kept line
+-- each byte is on a kept line
 abbrev pub TextStandsOnKeptLines : Type 0
 TextStandsOnKeptLines =
     (bytes : List ℕ) →
     IfOk (program_text bytes) (λ text. All (λ p. Contains (kept_numbers bytes) p.line) text)
 
--- no byte stands on an earlier line than one before it
+-- no byte is on an earlier line than one before it
 abbrev pub LinesRise : Type 0
 LinesRise =
     (bytes : List ℕ) → IfOk (program_text bytes) (λ text. IsNonDecreasingBy (λ p. p.line) text)

@@ -8,12 +8,14 @@ use Rattle.ref_format.specs.Entry.{is_dropped}
 -- a line's columns 1 to 72 with its number, from 1
 pub record Line : Type 0 where
   pub number : ℕ
+  -- columns 1 to 72
   pub card : List ℕ
 
+-- the line with this number and these columns
 abbrev pub line_of : ℕ → List ℕ → Line
 line_of number card = record { number = number; card = card }
 
--- the kept ones of the lines, which are numbered from `number`, where those stand before them
+-- the kept ones of the lines, which are numbered from `number`, where those come before them
 abbrev pub kept_behind : List (List ℕ) → ℕ → List (List ℕ) → List Line
 kept_behind before number [] = []
 kept_behind before number (card ∷ cards) =

@@ -6,17 +6,19 @@ use Rattle.ref_format.specs.declared.placed.Placed.{Placed}
 use Rattle.ref_format.specs.Column.{is_blank, filled}
 use Rattle.ref_format.specs.Placed.{placed}
 
--- a text that can stand from column 8 on
+-- a text that can be written from column 8 on
 pub record IsPlainLine (text : List ℕ) : Type 0 where
   pub short : length text ≤ 65
+  -- without control characters
   pub printable : list_all (nat_le space) text ≡ true
+  -- and not blank
   pub some : is_blank text ≡ false
 
--- it stands there
+-- it is there
 abbrev pub plain_line : List ℕ → List ℕ
 plain_line text = replicate 7 space ++ text
 
--- the texts, filled to column 72 and numbered behind `number`, behind the line before them
+-- the texts, filled to column 72 and numbered after `number`, after the line before them
 abbrev pub laid_behind : (number : ℕ) → List (List ℕ) → List Placed
 laid_behind number [] = []
 laid_behind number (text ∷ texts) =

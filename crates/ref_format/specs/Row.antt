@@ -18,6 +18,7 @@ pub data Row : Type 0 where
 
 -- ---- lines
 
+-- the line as it is written
 abbrev pub row_line : Row → List ℕ
 row_line (Begins text) = plain_line text
 row_line (GoesOn text) = replicate 6 space ++ (hyphen ∷ replicate 4 space) ++ text
@@ -34,7 +35,7 @@ abbrev pub row_text : Literal → Row → List ℕ
 row_text literal (Begins text) = filled 65 text
 row_text literal (GoesOn text) = less_mark literal (filled 61 text)
 
--- the literal that is open behind a line
+-- the literal that is open after a line
 abbrev pub literal_behind : Literal → Row → Literal
 literal_behind literal (Begins text) = behind Closed (filled 65 text)
 literal_behind literal (GoesOn text) = behind literal (less_mark literal (filled 61 text))
@@ -44,7 +45,7 @@ abbrev pub end_before : (number : ℕ) → Row → List Placed
 end_before number (Begins text) = placed number (line_feed ∷ [])
 end_before number (GoesOn text) = []
 
--- the text of the lines behind line `number`
+-- the text of the lines after line `number`
 abbrev pub rows_text : (number : ℕ) → Literal → List Row → List Placed
 rows_text number literal [] = []
 rows_text number literal (row ∷ rows) =
@@ -63,7 +64,7 @@ abbrev pub last_of : (before : ℕ) → List ℕ → ℕ
 last_of before [] = before
 last_of before (b ∷ bytes) = last_of b bytes
 
--- a continuation begins with the mark of the literal that is open; where none is, no space stands
+-- a continuation begins with the mark of the literal that is open; where none is, no space is
 -- at the cut
 abbrev pub TakesUp : Literal → (last : ℕ) → List ℕ → Type 0
 TakesUp literal last [] = ⊥
@@ -71,16 +72,20 @@ TakesUp Closed last (b ∷ text) = (b ≢ space) × (last ≢ space)
 TakesUp InQuotes last (b ∷ text) = b ≡ quote
 TakesUp InApostrophes last (b ∷ text) = b ≡ apostrophe
 
+-- this text may be written on a continuation, after a text with this open literal and last byte
 pub record IsContinuation (literal : Literal) (last : ℕ) (text : List ℕ) : Type 0 where
   pub short : length text ≤ 61
+  -- without control characters
   pub printable : list_all (nat_le space) text ≡ true
+  -- it takes up the literal that is open
   pub takes_up : TakesUp literal last text
 
+-- the line may be written there
 abbrev pub IsRow : Literal → (last : ℕ) → Row → Type 0
 IsRow literal last (Begins text) = IsPlainLine text
 IsRow literal last (GoesOn text) = IsContinuation literal last text
 
--- each line is a plain one or a continuation, behind a text with this open literal and last byte
+-- each line is a plain one or a continuation, after a text with this open literal and last byte
 abbrev pub AreRows : Literal → (last : ℕ) → List Row → Type 0
 AreRows literal last [] = Unit {0}
 AreRows literal last (row ∷ rows) =

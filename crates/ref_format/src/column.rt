@@ -65,12 +65,14 @@ fn tabbed_card(line: &[u8]) -> [u8; 72]
     card
 }
 
+/// Whether all bytes are spaces.
 pub fn blank(bytes: &[u8]) -> bool
     ensures { result ≡ is_blank bytes.now }
 {
     bytes.iter().all(|b| *b == b' ')
 }
 
+/// Whether one of the bytes is a control character, below 32.
 pub fn controls(bytes: &[u8]) -> bool
     ensures { result ≡ has_control bytes.now }
 {
@@ -81,7 +83,7 @@ pub fn controls(bytes: &[u8]) -> bool
     found
 }
 
-/// The bytes from the first one that is no space on.
+/// The bytes without the spaces before them.
 pub fn behind_spaces(bytes: &[u8]) -> &[u8]
     ensures { result.now ≡ unspaced bytes.now }
 {

@@ -6,7 +6,7 @@ ghost use Rattle.ref_format.specs.Entry.{entry_goes_on as goes_on_over, begins_o
 
 use crate::column::{behind_spaces, blank};
 
-/// Behind one of these no comment entry begins.
+/// After one of these no comment entry begins.
 const DIVISION_HEADERS: [&str; 3] = ["ENVIRONMENT ", "DATA ", "PROCEDURE "];
 
 /// What begins a comment entry (ISO 1989:1985, Identification Division).
@@ -19,10 +19,10 @@ const COMMENT_HEADERS: [&str; 6] = [
     "REMARKS.",
 ];
 
-/// Where the lines stand among the comment entries.
+/// How far the lines so far have come in the comment entries.
 #[derive(Clone, Copy)]
 pub struct Entries {
-    /// Whether a division header stood before, so that no entry begins any more.
+    /// Whether one of these division headers came before, so that no entry begins any more.
     pub over: bool,
     /// Whether the last line belongs to an entry.
     pub inside: bool,
@@ -85,8 +85,8 @@ fn comment_header(card: &[u8; 72]) -> bool
     card[6] == b' ' && begins(&COMMENT_HEADERS, card)
 }
 
-/// Whether the first byte that is no space stands in columns 8 to 11 and there one of the words,
-/// which are in capitals, begins.
+/// Whether the first byte that isn't a space is in columns 8 to 11, and one of the words, which are
+/// in capitals, begins there.
 fn begins(words: &[&str], card: &[u8; 72]) -> bool
     ensures { result ≡ begins_one (map (λ w. w.now) words.now) card.now }
 {

@@ -42,7 +42,7 @@ impl Literal {
         literal
     }
 
-    /// The literal that is open behind these bytes of a line, before which none is.
+    /// The literal that is open after these bytes of a line, before which none is open.
     fn in_line(bytes: &[u8]) -> Literal
         ensures { result ≡ behind Literal.Closed bytes.now }
     {
@@ -53,7 +53,7 @@ impl Literal {
         }
     }
 
-    /// Whether these bytes lack the mark by which they would go on with the literal.
+    /// Whether these bytes lack the mark with which they would continue the literal.
     fn lacks_mark(self, bytes: &[u8]) -> bool
         ensures { result ≡ without_mark self bytes.now }
     {
@@ -65,7 +65,7 @@ impl Literal {
     }
 }
 
-/// Whether a mark stands in the bytes that could open a literal.
+/// Whether the bytes hold a mark that could open a literal.
 fn has_mark(bytes: &[u8]) -> bool
     ensures { result ≡ has_mark bytes.now }
 {
@@ -97,6 +97,7 @@ impl Joining {
     ghost use Rattle.ref_format.specs.declared.fault.FormatError.TheVariants.{NoMemory as Memory};
     ghost use Rattle.ref_format.specs.declared.joining.Literal.TheVariants.{Closed};
 
+    /// No line yet.
     pub fn new(alloc: Global) -> Joining
         ensures text { result.text.items ≡ [] }
         ensures last { result.last ≡ None }
@@ -157,7 +158,7 @@ impl Joining {
             || self.literal.lacks_mark(behind_spaces(&card[11..]))
     }
 
-    /// Goes on with a continuation line.
+    /// Takes a continuation line.
     fn go_on(&mut self, number: u32, card: &[u8; 72]) -> Result<(), NoMemory>
         ensures text { OnOk result
             (self.new.text.items
@@ -187,7 +188,7 @@ impl Joining {
         Ok(())
     }
 
-    /// Puts the bytes of a line, before which no literal is open.
+    /// Adds the bytes of a line, before which no literal is open.
     fn put_line(&mut self, line: u32, bytes: &[u8]) -> Result<(), NoMemory>
         ensures text { OnOk result (self.new.text.items ≡ self.old.text.items ++ placed line bytes.now) }
         ensures literal { OnOk result (self.new.literal ≡ behind Closed bytes.now) }

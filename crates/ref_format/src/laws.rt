@@ -2,12 +2,12 @@
 
 ghost use Rattle.ref_format.specs.Laws.{LinesRise, PlainLinesAreRead, RowsAreRead, TextStandsOnKeptLines};
 
-/// Each byte of the program text stands on a line that is kept.
+/// Each byte of the program text is on a kept line.
 pub fn text_stands_on_kept_lines()
     ensures { TextStandsOnKeptLines }
 {}
 
-/// The lines of the program text rise.
+/// The line numbers of the program text never decrease.
 pub fn lines_rise()
     ensures { LinesRise }
 {}
@@ -18,8 +18,8 @@ pub fn plain_lines_are_read()
     ensures { PlainLinesAreRead }
 {}
 
-/// Lines that are written are read as the text that they stand for, literals that go on over
-/// several lines too.
+/// Lines that are written are read as the text that they stand for, also where literals continue
+/// over several lines.
 pub fn rows_are_read()
     ensures { RowsAreRead }
 {}

@@ -1,10 +1,10 @@
 //! The reference format: bytes to program text.
 //!
 //! `unfold` drops comments, blank lines and comment entries, and joins the other lines, continued
-//! ones too, to one text in which each byte has its line. Hold `program_text` against ISO
-//! 1989:1985, Reference Format. That the definition is right is said by laws: `rows_are_read` (what
-//! is written as lines is read as its text), `text_stands_on_kept_lines` and `lines_rise`. That
-//! `unfold` succeeds where memory is ample is tested.
+//! ones too, to one text in which each byte has its line. `program_text` is to be compared with ISO
+//! 1989:1985, Reference Format. These laws support it: `rows_are_read` (what is written as lines is
+//! read as its text), `text_stands_on_kept_lines` and `lines_rise`. That `unfold` succeeds where
+//! memory is ample is tested.
 #![tactic(auto)]
 
 mod column;
@@ -31,8 +31,8 @@ pub use placed::Placed;
 use std::alloc::Global;
 
 /// The program text of a source in the reference format, each byte with its line, or the fault of
-/// the first line that isn't in the format. On one line a wrong indicator comes before a control
-/// character, and that before a wrong continuation.
+/// the first line that isn't in the format. On one line a wrong indicator counts before a control
+/// character, and that before a wrong continuation. The source must have fewer than 2^31 bytes.
 pub fn unfold(alloc: Global, bytes: &[u8]) -> Result<Items<Placed>, FormatError>
     requires { length bytes.now < 2 ^ 31 }
     ensures { Answers Memory (program_text bytes.now) result }

@@ -5,7 +5,7 @@ ghost use Rattle.std.specs.Str.Lines.{lines, strip_carriage_return};
 
 use std::simd::prelude::*;
 
-/// The first line of a source that isn't empty, and the source behind it.
+/// The first line of a source that isn't empty, and the source after it.
 ///
 /// A line ends at LF, and loses the CR directly before it.
 pub fn first_line(bytes: &[u8]) -> (&[u8], &[u8])
@@ -21,7 +21,7 @@ pub fn first_line(bytes: &[u8]) -> (&[u8], &[u8])
     }
 }
 
-/// Where the first LF stands; the length, where there is none.
+/// The place of the first LF; the length, where there is none.
 fn line_end(bytes: &[u8]) -> usize
     ensures within { result ≤ length bytes.now }
     ensures before { (k : ℕ) → k < result → slice_index bytes.now k ≢ 10 }
@@ -41,7 +41,7 @@ fn line_end(bytes: &[u8]) -> usize
     at
 }
 
-/// How many of the first sixteen bytes stand before an LF; none of fewer bytes.
+/// How many of the first sixteen bytes are before an LF; 0 of fewer than sixteen bytes.
 fn without_line_feed(bytes: &[u8]) -> usize
     ensures within { result ≤ length bytes.now }
     ensures before { (k : ℕ) → k < result → slice_index bytes.now k ≢ 10 }

@@ -1,6 +1,6 @@
-//! Bytes of the program text, with the lines on which they stand.
+//! Bytes of the program text, with their lines.
 
-/// A byte of the program text, and the line of the source on which it stands, from 1.
+/// A byte of the program text, and its line in the source, from 1.
 #[derive(Clone, Copy, Debug, PartialEq, Eq)]
 pub struct Placed {
     pub byte: u8,

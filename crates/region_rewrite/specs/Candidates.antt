@@ -23,6 +23,7 @@ AllInBut label applies set = (l : Label) → l ≢ label → applies l ≡ true 
 abbrev pub TargetsIn : Tree → BTreeSet ℕ → Type 0
 TargetsIn t set = (l : Label) → is_above (leaves_to l t) ≡ true → contains nat_cmp set l ≡ true
 
+-- each label to which a leaf of these trees jumps is in the set
 abbrev pub ArmTargetsIn : Trees → BTreeSet ℕ → Type 0
 ArmTargetsIn arms set = (l : Label) → is_above (arms_leaves_to l arms) ≡ true →
     contains nat_cmp set l ≡ true
@@ -48,15 +49,23 @@ Fixed f (node ∷ nodes) = (f node.tree ≡ node.tree) × Fixed f nodes
 
 -- all trees are joined, and each rule applies only on labels that are in its set
 pub record Holds (graph : Graph) (to_loop to_inline to_exit : BTreeSet ℕ) : Type 0 where
+  -- every tree is joined
   pub joined : Fixed joined graph.nodes
+  -- Loop applies only on labels of this set
   pub loops : AllIn (may_loop graph) to_loop
+  -- Inline applies only on labels of this set
   pub inlines : AllIn (may_inline graph) to_inline
+  -- Exits applies only on labels of this set
   pub exits : AllIn (may_exit graph) to_exit
 
 -- so it is but for this label
 pub record HoldsBut (label : Label) (graph : Graph) (to_loop to_inline to_exit : BTreeSet ℕ)
     : Type 0 where
+  -- every other tree is joined
   pub joined : Fixed joined (without label graph.nodes)
+  -- elsewhere Loop applies only on labels of this set
   pub loops : AllInBut label (may_loop graph) to_loop
+  -- elsewhere Inline applies only on labels of this set
   pub inlines : AllInBut label (may_inline graph) to_inline
+  -- elsewhere Exits applies only on labels of this set
   pub exits : AllInBut label (may_exit graph) to_exit

@@ -5,6 +5,7 @@ use Rattle.graph_rewriting.specs.Helds.{seen_work}
 use Rattle.region_rewrite.specs.Candidates.{Holds, HoldsBut}
 use Rattle.region_rewrite.specs.declared.reducing.Reducing.{Reducing}
 
+-- the graph as the theory has it
 abbrev pub graph_in : Reducing → Graph
 graph_in state = seen_work state.work
 

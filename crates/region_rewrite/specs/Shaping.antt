@@ -13,6 +13,7 @@ use Rattle.branch_tree.specs.Tree.{seen_body, seen_end}
 use Rattle.region_rewrite.specs.written_nesting.Nesting.{nesting}
 use Rattle.region_rewrite.specs.declared.shaping.Shaped.{Shaped}
 
+-- the limit of the result's nesting, passed by one
 abbrev pub nesting_passed : Limit
 nesting_passed = past Nesting true (max_nesting + 1)
 

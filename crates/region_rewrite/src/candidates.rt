@@ -15,7 +15,7 @@ use loop_rules::may_loop;
 use std::collections::BTreeSet;
 use tree_rules::may_inline;
 
-/// A rule that is tried on one node after the other.
+/// A rule that is tried on one node after another.
 #[derive(Clone, Copy)]
 pub enum Rule {
     Loop,
@@ -34,8 +34,8 @@ fn applies(rule: Rule, work: &Work, label: Label) -> bool
     }
 }
 
-/// The lowest label on which the rule applies, of those where it is to be tried. It is to be tried
-/// there no longer.
+/// The lowest label on which the rule applies, among those where it is to be tried; it is taken out
+/// of the set.
 pub fn next(rule: Rule, work: &Work, labels: &mut BTreeSet<Label>) -> Option<Label>
     requires { AllIn (applies rule (seen_work work.now)) labels.old }
     ensures { IsLowest result (applies rule (seen_work work.now)) labels.new }
@@ -48,7 +48,7 @@ pub fn next(rule: Rule, work: &Work, labels: &mut BTreeSet<Label>) -> Option<Lab
     None
 }
 
-/// Puts the labels to which leaves of the tree jump into the set.
+/// Adds the labels to which leaves of the tree jump to the set.
 #[cycle(targets)]
 fn put_targets(tree: &Tree, labels: &mut BTreeSet<Label>) -> Result<(), NoMemory>
     ensures grows { OnOk result (Grows labels.old labels.new) }
@@ -77,7 +77,7 @@ fn put_arm_targets(arms: &[Tree], labels: &mut BTreeSet<Label>) -> Result<(), No
     Ok(())
 }
 
-/// Puts the labels to which leaves of the node's tree jump into the set.
+/// Adds the labels to which leaves of the node's tree jump to the set.
 pub fn put_node_targets(
     work: &Work,
     label: Label,

@@ -61,8 +61,8 @@ fn any_step(alloc: Global, state: &mut Reducing) -> Result<bool, NoMemory>
     exits_lowest(alloc, state)
 }
 
-/// As many steps of Loop, Inline and Exits as apply, at most this many. Without memory some are
-/// done.
+/// Makes steps of Loop, Inline and Exits as long as one applies, at most this many. Without memory
+/// some are done.
 pub fn all_steps(alloc: Global, state: &mut Reducing, most: usize) -> Result<(), NoMemory>
     requires { StateHolds state.old }
     ensures { OnOk result (graph_in state.new ≡ reduced_by_all most (graph_in state.old)) }

@@ -1,4 +1,4 @@
-//! Join, everywhere.
+//! Makes all joins of a graph.
 
 ghost use Rattle.std.specs.Prelude.{◌≡◌, ◌*◌, IfOk, OnOk};
 ghost use Rattle.control_flow_theory.specs.graph_rules.Reduced.{each_tree, join_graph, size};
@@ -18,7 +18,7 @@ fn join_nodes(nodes: &mut [Node]) -> Result<(), NoMemory>
     Ok(())
 }
 
-/// Join, everywhere.
+/// Makes all joins of a graph.
 pub fn join_graph(graph: &mut Graph) -> Result<(), NoMemory>
     ensures { OnOk result (seen_graph graph.new ≡ join_graph (seen_graph graph.old)) }
 {

@@ -34,7 +34,7 @@ fn labels_in(alloc: Global, nodes: &[Node]) -> Result<BTreeSet<Label>, NoMemory>
     Ok(labels)
 }
 
-/// A joined graph, on which each rule is to be tried on each label.
+/// A joined graph, with each rule to be tried on each label.
 fn begun(alloc: Global, graph: Graph) -> Result<Reducing, NoMemory>
     requires closed { IsClosed (seen_graph graph) }
     requires joined { Fixed joined (seen_nodes graph.nodes.items) }
@@ -76,8 +76,8 @@ fn dispatch_rest(alloc: Global, work: &mut Work) -> Result<(), NoMemory>
     dispatch(alloc, work)
 }
 
-/// As many steps of Loop and Inline as apply, at most this many, then as many of these and of Exits,
-/// and the dispatch. Without memory some are done.
+/// Makes steps of Loop and Inline as long as one applies, at most this many, then at most as many
+/// of these and of Exits, and the dispatch. Without memory some are done.
 fn reduce(alloc: Global, state: &mut Reducing, most: usize) -> Result<(), NoMemory>
     requires { StateHolds state.old }
     ensures { OnOk result (graph_in state.new
@@ -101,7 +101,7 @@ fn ended(alloc: Global, state: Reducing) -> Result<Graph, NoMemory>
     work.into_graph(alloc)
 }
 
-/// Join, everywhere, and how many steps of the other rules are enough.
+/// Makes all joins, and answers how many steps of the other rules are enough.
 fn prepared(graph: &mut Graph) -> Result<usize, NoMemory>
     ensures graph { OnOk result (seen_graph graph.new ≡ join_graph (seen_graph graph.old)) }
     ensures most { IfOk result (λ most. most ≡ 3 * size (seen_graph graph.old).nodes) }

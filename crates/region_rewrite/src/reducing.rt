@@ -27,7 +27,7 @@ pub struct Reducing {
     pub exits: BTreeSet<Label>,
 }
 
-/// Each rule is to be tried on the label.
+/// Adds the label to those on which each rule is to be tried.
 fn enter(state: &mut Reducing, label: Label) -> Result<(), NoMemory>
     ensures work { state.new.work ≡ state.old.work }
     ensures loops { OnOk result (Enters label state.old.loops state.new.loops) }
@@ -40,8 +40,8 @@ fn enter(state: &mut Reducing, label: Label) -> Result<(), NoMemory>
     Ok(())
 }
 
-/// Joins the tree of the node whose tree has changed; each rule is to be tried on it, and Inline on
-/// those to which its leaves jumped.
+/// Joins the tree of a node, which has changed. Each rule is to be tried on this node, and Inline
+/// on those to which its leaves jumped.
 pub fn settle(alloc: Global, state: &mut Reducing, label: Label) -> Result<(), NoMemory>
     requires has { has_node (graph_in state.old).nodes label ≡ true }
     requires but { StateHoldsBut label state.old }
@@ -132,7 +132,8 @@ pub fn step(alloc: Global, state: &mut Reducing) -> Result<bool, NoMemory>
     inline_lowest(alloc, state)
 }
 
-/// As many steps of Loop and Inline as apply, at most this many. Without memory some are done.
+/// Makes steps of Loop and Inline as long as one applies, at most this many. Without memory some
+/// are done.
 pub fn steps(alloc: Global, state: &mut Reducing, most: usize) -> Result<(), NoMemory>
     requires { StateHolds state.old }
     ensures holds { OnOk result (StateHolds state.new) }

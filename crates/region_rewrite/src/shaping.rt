@@ -16,8 +16,8 @@ use cob_tree::SplitFault;
 use std::alloc::Global;
 use std::collections::VecDeque;
 
-/// What a graph becomes: a body, an end behind which nothing comes, and the added items in the
-/// order in which they were made.
+/// What a graph becomes: a body, an end after which nothing comes, and the added items in the order
+/// in which they were made.
 #[derive(Drop)]
 pub struct Shaped {
     pub body: VecDeque<Piece>,
@@ -55,9 +55,9 @@ fn one_node(graph: Graph) -> Result<Shaped, SplitFault>
     }
 }
 
-/// Shapes a graph by all rules in their order. The limit is passed exactly where the result nests
-/// deeper than 500 levels. A graph with 2^32 - 1 nodes or added items is out of memory, and so is
-/// one of which 2^32 - 2 nodes come to the dispatch.
+/// Shapes a graph by all rules in their order. The errors are Limit, exactly where the result nests
+/// deeper than 500 levels, and out of memory; the latter also where the graph has 2^32 - 1 nodes or
+/// added items, or 2^32 - 2 nodes come to the dispatch.
 pub fn shape(alloc: Global, graph: Graph) -> Result<Shaped, SplitFault>
     requires { IsClosed (seen_graph graph) }
     ensures shaped { Shapes result (closed_graph (seen_graph graph)) }

@@ -1,7 +1,7 @@
 //! How deep the statements of a tree nest as they are written.
 //!
 //! A statement that holds statements is one level more than the deepest of them; an empty arm of
-//! READ or of arithmetic that the written statement leaves out makes no level
+//! READ or of arithmetic that the written statement leaves out adds no level
 //! (`specs/written_nesting/Nesting.antt`).
 
 mod nesting;

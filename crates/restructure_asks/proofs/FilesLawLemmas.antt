@@ -143,4 +143,4 @@ due-run-on-files steps source out notes left left_now old new answer (inl h) byt
     came-told steps bytes files due is_due left left_now old new tells h.told.came out notes answer
     (subst (λ b. Comes b steps out h.told.came) same h.told.run.comes)
     (subst (λ b. ComesOver b steps out left left_now old new h.told.came) same h.over) h.told.told
-due-run-on-files steps source out notes left left_now old new answer (inr h) bytes files due told tells is_due = inr (unrun-comes due source out notes answer h)
+due-run-on-files steps source out notes left left_now old new answer (inr h) bytes files due told tells is_due = inr (unrun-comes due source out notes answer h.0)

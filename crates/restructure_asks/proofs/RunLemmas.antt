@@ -19,7 +19,7 @@ use Rattle.restructure_asks.specs.declared.refusal.Refusal.TheVariants as refusa
 use Rattle.restructure_asks.specs.declared.status.Status.{Status}
 use Rattle.restructure_asks.specs.declared.status.Status.TheVariants as status
 use Rattle.restructure_asks.specs.Reading.{IsRead, IsReadWithin, IsReadFault}
-use Rattle.restructure_asks.specs.Running.{IsRun, EndsOfRun, EndsOfRunWithFiles, TellsCame, refusal_of}
+use Rattle.restructure_asks.specs.Running.{IsRun, IsUnrun, EndsOfRun, EndsOfRunWithFiles, TellsCame, refusal_of}
 use Rattle.cob_base.specs.giving.Giving.{Keeps}
 use Rattle.restructure_asks.specs.Writing.{Notes, NotesOrNot}
 
@@ -60,11 +60,14 @@ module _ (steps : ℕ) (source : SourceCall) (out : SinkCall) (text : List ℕ) 
       inl (record { told = record { came = came.NoMemory; run = was-run came.NoMemory h; told = told; fault = fault }; over = over })
 
 -- a source that failed, or for which memory was wanted, wasn't run
-pub unrun : (steps : ℕ) (source : SourceCall) (out notes : SinkCall) (r : Refusal) (answer : Status) → (r ≡ refusal.ReadFault) ⊎ (r ≡ refusal.NoMemory) → (r ≡ refusal.ReadFault → Rose source.count source.count_now) → IsReadWithin (max_source + 1) source → Keeps out → Notes r notes answer → EndsOfRun steps source out notes answer
-unrun steps source out notes r answer which rose within kept noted = inr (record { refusal = r; why = why which; kept = kept; noted = noted }) where
+pub never-run : (source : SourceCall) (out notes : SinkCall) (r : Refusal) (answer : Status) → (r ≡ refusal.ReadFault) ⊎ (r ≡ refusal.NoMemory) → (r ≡ refusal.ReadFault → Rose source.count source.count_now) → IsReadWithin (max_source + 1) source → Keeps out → Notes r notes answer → IsUnrun source out notes answer
+never-run source out notes r answer which rose within kept noted = record { refusal = r; why = why which; kept = kept; noted = noted } where
   why : (r ≡ refusal.ReadFault) ⊎ (r ≡ refusal.NoMemory) → (r ≡ refusal.ReadFault) × IsReadFault (max_source + 1) source ⊎ (r ≡ refusal.NoMemory) × IsReadWithin (max_source + 1) source
   why (inl is) = inl (is, record { asked = omega arith; rose = rose is; read = within })
   why (inr is) = inr (is, within)
+
+pub unrun : (steps : ℕ) (source : SourceCall) (out notes : SinkCall) (r : Refusal) (answer : Status) → (r ≡ refusal.ReadFault) ⊎ (r ≡ refusal.NoMemory) → (r ≡ refusal.ReadFault → Rose source.count source.count_now) → IsReadWithin (max_source + 1) source → Keeps out → Notes r notes answer → EndsOfRun steps source out notes answer
+unrun steps source out notes r answer which rose within kept noted = inr (never-run source out notes r answer which rose within kept noted)
 
 -- What was noted tells what came.
 

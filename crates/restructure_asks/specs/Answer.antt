@@ -36,7 +36,7 @@ abbrev pub IsResult : List ℕ → Texts → Type 0
 IsResult bytes texts =
     (done : Done) × IsRestructured bytes done × (texts ≡ text_alone done.text)
 
--- and the lines of its report behind it
+-- and the lines of its report after it
 abbrev pub IsResultAndReport : List ℕ → Texts → Type 0
 IsResultAndReport bytes texts = (done : Done) × IsRestructured bytes done
     × (texts ≡ with_report done.text (report_text done.report))
@@ -46,14 +46,17 @@ abbrev pub IsReport : List ℕ → Texts → Type 0
 IsReport bytes texts = (report : reports.Report) × IsReported bytes report
     × (texts ≡ text_alone (report_text report))
 
+-- the answer is due where these bytes are restructured
 abbrev pub IsOfRestructure : List ℕ → Answer → Type 0
 IsOfRestructure bytes (Ok texts) = IsResult bytes texts
 IsOfRestructure bytes (Err refusal) = IsRefusalOf bytes refusal
 
+-- the answer is due where these bytes are restructured with a report
 abbrev pub IsOfReport : List ℕ → Answer → Type 0
 IsOfReport bytes (Ok texts) = IsResultAndReport bytes texts
 IsOfReport bytes (Err refusal) = IsRefusalOf bytes refusal
 
+-- the answer is due where these bytes are checked
 abbrev pub IsOfCheck : List ℕ → Answer → Type 0
 IsOfCheck bytes (Ok texts) = IsReport bytes texts
 IsOfCheck bytes (Err refusal) = IsRefusalOf bytes refusal
@@ -62,6 +65,7 @@ IsOfCheck bytes (Err refusal) = IsRefusalOf bytes refusal
 abbrev pub program_text : ℕ → List ℕ
 program_text n = printed (generated n)
 
+-- the answer is due where the program of this number is generated: its text, and never a refusal
 abbrev pub IsOfGenerate : ℕ → Answer → Type 0
 IsOfGenerate n (Ok texts) = texts ≡ text_alone (program_text n)
 IsOfGenerate n (Err refusal) = ⊥
@@ -77,18 +81,21 @@ IsDue (Some (Run steps)) bytes answer = ⊥
 IsDue (Some (Generate n)) bytes answer = IsOfGenerate n answer
 IsDue (Some (Trial n)) bytes answer = IsOfCheck (program_text n) answer
 
--- what is made for the ask: what is due to it, unless memory is wanted
+-- what is made for the ask: what is due to it, unless memory runs out
 abbrev pub IsMadeFor : Option Ask → List ℕ → Answer → Type 0
 IsMadeFor ask bytes answer = IsDue ask bytes answer ⊎ (answer ≡ Err refusal.NoMemory)
 
 -- the answer is due to the ask and the bytes of the source, which was read as far as the ask reads
 pub record IsAnswered (ask : Option Ask) (source : SourceCall) (answer : Answer) : Type 0 where
   pub bytes : List ℕ
+  -- these are the bytes, where the source tells them
   pub told : Tells source.told bytes
+  -- the answer is due to them
   pub due : IsDue ask bytes answer
+  -- the source was read as far as the ask reads
   pub left : source.left ≡ left_after (reads ask) source.told
 
--- the answer that is due is given, unless the source fails or memory is wanted
+-- the answer that is due is given, unless the source fails or memory runs out
 abbrev pub Gives : Option Ask → SourceCall → Answer → Type 0
 Gives ask source (Ok texts) = IsAnswered ask source (Ok texts)
 Gives ask source (Err refusal.Usage) = IsAnswered ask source (Err refusal.Usage)

@@ -15,6 +15,7 @@ number_of (byte ∷ bytes) = digits_value (byte ∷ bytes)
 abbrev pub last_program : ℕ
 last_program = 1249
 
+-- the number, where a program is generated for it
 abbrev pub in_range : ℕ → Option ℕ
 in_range n = if nat_lt n 1 then None else if nat_lt last_program n then None else Some n
 
@@ -33,9 +34,11 @@ ask_of_word word =
 abbrev pub report_of : List ℕ → Option Ask
 report_of option = if bytes_eq option (codes "--report") then Some Report else None
 
+-- the ask to generate the program of a number
 abbrev pub generate_of : List ℕ → Option Ask
 generate_of number = option_map (λ n. Generate n) (program_number number)
 
+-- the ask to try the program of a number
 abbrev pub trial_of : List ℕ → Option Ask
 trial_of number = option_map (λ n. Trial n) (program_number number)
 
@@ -62,8 +65,11 @@ ask_of (word ∷ other ∷ []) = ask_of_two word other
 ask_of (word ∷ option ∷ number ∷ []) = run_of word option number
 ask_of (first ∷ second ∷ third ∷ fourth ∷ others) = None
 
+-- a program is generated for the number
 pub record IsProgramNumber (n : ℕ) : Type 0 where
+  -- it is 1 at least
   pub low : 1 ≤ n
+  -- it is the last program's at most
   pub high : n ≤ last_program
 
 -- an ask about a generated program is about one that is there

@@ -43,6 +43,7 @@ abbrev pub WordsAreOfTheirAsk : Type 0
 WordsAreOfTheirAsk =
     (words : List (List ℕ)) (ask : Ask) → (ask_of words ≡ Some ask) ↔ AreWordsOf ask words
 
+-- the refusal of a program by a trail to its fault
 abbrev pub trail_answer : Program → Trail → Answer
 trail_answer program trail = Err (refusal.Refused (refused.Flow program trail))
 

@@ -21,4 +21,5 @@ is_page (first ∷ second ∷ others) = false
 pub record ShowsPage (source : SourceCall) (out notes : SinkCall) (status : Status) : Type 0 where
   pub page : List ℕ
   pub written : Writes (text_alone page) out notes status
+  -- nothing of the source was read
   pub unread : source.left ≡ source.told

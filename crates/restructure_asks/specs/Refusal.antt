@@ -22,12 +22,14 @@ of_refused (refused.Flow program trail) = refusal.Refused (refused.Flow program 
 of_refused (refused.Limit limit) = refusal.Refused (refused.Limit limit)
 of_refused refused.NoMemory = refusal.NoMemory
 
+-- the status of a source that is refused
 abbrev pub refused_status : Refused → Status
 refused_status (refused.NotSubset why) = status.NotSubset
 refused_status (refused.Flow program trail) = status.Flow
 refused_status (refused.Limit limit) = status.Limit
 refused_status refused.NoMemory = status.NoMemory
 
+-- the status of a refusal
 abbrev pub status_of : Refusal → Status
 status_of refusal.Usage = status.Usage
 status_of (refusal.Refused refused) = refused_status refused
@@ -39,23 +41,28 @@ status_of refusal.ReadFault = status.ReadFault
 status_of refusal.WriteFault = status.WriteFault
 status_of refusal.NoMemory = status.NoMemory
 
+-- the line of a fault of reading
 abbrev pub not_subset_text : ReadFault → List ℕ
 not_subset_text why = codes "NOT SUBSET " ++ kind_at why
 
+-- the lines of a source that is refused
 abbrev pub refused_text : Refused → List ℕ
 refused_text (refused.NotSubset why) = not_subset_text why
 refused_text (refused.Flow program trail) = trail_text program.paragraphs trail
 refused_text (refused.Limit limit) = limit_text limit
 refused_text refused.NoMemory = codes "NO MEMORY"
 
+-- the line of an abend
 abbrev pub abend_text : Abend → List ℕ
 abend_text abends.BadDigits = codes "ABEND BAD-DIGITS"
 abend_text abends.OutOfRange = codes "ABEND OUT-OF-RANGE"
 abend_text (abends.Io status) = codes "ABEND IO " ++ decimal status
 
+-- the line of a device that failed
 abbrev pub device_text : List ℕ → List ℕ
 device_text name = codes "DEVICE FAULT " ++ name
 
+-- the lines of a refusal
 abbrev pub refusal_text : Refusal → List ℕ
 refusal_text refusal.Usage = codes "USAGE"
 refusal_text (refusal.Refused refused) = refused_text refused

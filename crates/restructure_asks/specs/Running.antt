@@ -22,7 +22,7 @@ use Rattle.restructure_core.specs.Pipeline.{IsUnread}
 use Rattle.restructure_core.specs.Fault.{of_read_refusal}
 use Rattle.restructure_core.specs.declared.run.Came.{Came}
 use Rattle.restructure_core.specs.declared.run.Came.TheVariants as came
-use Rattle.restructure_core.specs.run.Answers.{Comes, ComesOver, IsWriteFault}
+use Rattle.restructure_core.specs.run.Answers.{Comes, ComesOver, IsWriteFault, StaysAsWas}
 use Rattle.restructure_asks.specs.declared.refusal.Refusal.{Refusal}
 use Rattle.restructure_asks.specs.declared.refusal.Refusal.TheVariants as refusals
 use Rattle.restructure_asks.specs.declared.status.Status.{Status}
@@ -61,7 +61,9 @@ refusal_of steps (came.Ran program ran) = refusal_of_run steps program ran
 pub record StandsSo (bytes : List ℕ) (steps : ℕ) (program : Program)
     (standing : Files → Standing Files) : Type 0 where
   pub reads : Reads bytes program
+  -- it has no statement on files
   pub plain : is_plain program ≡ true
+  -- over any files its run stands so
   pub stands : (files : Files) → (source_run program files steps).standing ≡ standing files
 
 -- it came to this end within so many steps
@@ -70,7 +72,7 @@ EndsAs bytes steps program ending =
     StandsSo bytes steps program (λ files. Over (ending_seen ending files))
 
 -- what is due to bytes that are to be run: their run stops normally, or why it doesn't; of a
--- program with statements on files nothing is said
+-- program with statements on files nothing is claimed
 abbrev pub IsRunDue : ℕ → List ℕ → Option Refusal → Type 0
 IsRunDue steps bytes None = (program : Program) × EndsAs bytes steps program ending.Stopped
 IsRunDue steps bytes (Some (refusals.Refused why)) = IsUnread bytes why
@@ -86,6 +88,7 @@ IsRunDue steps bytes (Some _) = ⊥
 pub record StandsOnFiles (bytes : List ℕ) (steps : ℕ) (files : Files) (program : Program)
     (standing : Standing Files) : Type 0 where
   pub reads : Reads bytes program
+  -- over these files its run stands so
   pub stands : (source_run program files steps).standing ≡ standing
 
 -- over these files it came to this end within so many steps, and left some files
@@ -122,24 +125,33 @@ TellsCame (Some refusal) notes answer = Notes refusal notes answer
 -- them: what they display went to the sink
 pub record IsRun (steps : ℕ) (source : SourceCall) (out : SinkCall) (came : Came) : Type 0 where
   pub bytes : List ℕ
+  -- these are the bytes, where the source tells them
   pub told : Tells source.told bytes
+  -- this came of running them
   pub comes : Comes bytes steps out came
+  -- the source was read to its end or past the limit
   pub left : source.left ≡ left_after (max_source + 1) source.told
 
--- the source was run, and what came of it is told; at a write fault the sink failed
+-- the source was run, and what came of it is reported; at a write fault the sink failed
 pub record IsRunTold (steps : ℕ) (source : SourceCall) (out notes : SinkCall) (answer : Status)
     : Type 0 where
+  -- what came of it
   pub came : Came
   pub run : IsRun steps source out came
+  -- the status and the notes say what came of it
   pub told : TellsCame (refusal_of steps came) notes answer
+  -- at a write fault the sink's count of failures rose
   pub fault : IsWriteFault came → Rose out.count out.count_now
 
--- the source failed, or memory was wanted before anything ran, which was noted
+-- the source failed, or memory ran out before anything ran, which was noted
 pub record IsUnrun (source : SourceCall) (out notes : SinkCall) (answer : Status) : Type 0 where
   pub refusal : Refusal
+  -- the source failed, or memory ran out
   pub why : (refusal ≡ refusals.ReadFault) × IsReadFault (max_source + 1) source
       ⊎ (refusal ≡ refusals.NoMemory) × IsReadWithin (max_source + 1) source
+  -- nothing was written
   pub kept : Keeps out
+  -- the refusal went to the notes
   pub noted : Notes refusal notes answer
 
 -- how a call that runs a source for at most so many steps ends
@@ -152,6 +164,7 @@ EndsOfRun steps source out notes answer =
 pub record IsRunWithFiles (steps : ℕ) (source : SourceCall) (out notes : SinkCall)
     (left left_now : ℕ) (old new : List Seen) (answer : Status) : Type 0 where
   pub told : IsRunTold steps source out notes answer
+  -- the run left so much of the bench and the files
   pub over : ComesOver told.run.bytes steps out left left_now old new told.came
 
 -- how such a call ends over the devices of a bench
@@ -159,10 +172,13 @@ abbrev pub EndsOfRunWithFiles : ℕ → SourceCall → SinkCall → SinkCall →
     (old new : List Seen) → Status → Type 0
 EndsOfRunWithFiles steps source out notes left left_now old new answer =
     IsRunWithFiles steps source out notes left left_now old new answer
-    ⊎ IsUnrun source out notes answer
+    ⊎ IsUnrun source out notes answer × StaysAsWas left left_now old new
 
 -- a device failed and is gone from the bench, and its name was noted
 pub record IsDeviceTold (notes : SinkCall) (left left_now : ℕ) (old new : List Seen) : Type 0 where
+  -- the name of the device
   pub name : List ℕ
+  -- the first device of that name failed
   pub fell : FellNamed name left left_now old new
+  -- its name went to the notes
   pub noted : Takes (line_of (refusals.Device name)) notes

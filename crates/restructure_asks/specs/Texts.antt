@@ -3,8 +3,10 @@
 use Rattle.std.specs.Prelude.{ℕ, List, Some, None}
 use Rattle.restructure_asks.specs.declared.texts.Texts.{Texts}
 
+-- a text without a report
 abbrev pub text_alone : List ℕ → Texts
 text_alone text = record { text = text; report = None }
 
+-- a text with a report
 abbrev pub with_report : (text report : List ℕ) → Texts
 with_report text report = record { text = text; report = Some report }

@@ -21,6 +21,7 @@ use Rattle.restructure_asks.specs.Writing.{GainsReport, NotesNoMemory, IsWriteFa
 -- the text that is due was written, and nothing was noted but the report that is due
 pub record IsDone (ask : Option Ask) (source : SourceCall) (out notes : SinkCall) : Type 0 where
   pub texts : Texts
+  -- the texts are due
   pub answered : IsAnswered ask source (Ok texts)
   pub written : Gains texts.text out
   pub noted : GainsReport texts.report notes
@@ -29,28 +30,38 @@ pub record IsDone (ask : Option Ask) (source : SourceCall) (out notes : SinkCall
 pub record IsRefused (ask : Option Ask) (source : SourceCall) (out notes : SinkCall)
     (answer : Status) : Type 0 where
   pub refusal : Refusal
+  -- the refusal is due
   pub answered : IsAnswered ask source (Err refusal)
   pub status : answer ≡ status_of refusal
+  -- nothing was written
   pub kept : Keeps out
+  -- the refusal went to the notes
   pub noted : Takes (line_of refusal) notes
 
 -- the source failed, which was noted, and nothing was written
 pub record IsUnread (ask : Option Ask) (source : SourceCall) (out notes : SinkCall) : Type 0 where
   pub fault : IsReadFault (reads ask) source
+  -- nothing was written
   pub kept : Keeps out
+  -- the line of a read fault went to the notes
   pub noted : Takes (line_of refusal.ReadFault) notes
 
 -- a front of the text that is due was written, until the sink failed, which was noted; or a front
--- of the report that is due behind it, until the notes failed
+-- of the report that is due after it, until the notes failed
 pub record IsCut (ask : Option Ask) (source : SourceCall) (out notes : SinkCall) : Type 0 where
   pub texts : Texts
+  -- the texts are due
   pub answered : IsAnswered ask source (Ok texts)
+  -- the sink or the notes failed on the way
   pub fault : IsWriteFault texts out notes
 
--- memory was wanted, and nothing was written
+-- memory ran out, and nothing was written
 pub record IsStarved (ask : Option Ask) (source : SourceCall) (out notes : SinkCall) : Type 0 where
+  -- no more of the source was read than the ask reads
   pub read : IsReadWithin (reads ask) source
+  -- nothing was written
   pub kept : Keeps out
+  -- that memory ran out went to the notes, or nothing did
   pub noted : NotesNoMemory notes
 
 -- what each status tells, of an ask for a text

@@ -10,16 +10,16 @@ use Rattle.restructure_asks.specs.declared.status.Status.{Status}
 use Rattle.restructure_asks.specs.declared.status.Status.TheVariants as status
 use Rattle.restructure_asks.specs.Refusal.{status_of, line_of}
 
--- the line that tells want of memory went to the notes, or nothing did
+-- the line that says that memory ran out went to the notes, or nothing did
 abbrev pub NotesNoMemory : SinkCall → Type 0
 NotesNoMemory notes = Takes (line_of refusal.NoMemory) notes ⊎ Keeps notes
 
--- the line went to the notes; where there was no room for it, memory was wanted
+-- the line went to the notes; where there was no room for it, memory ran out
 abbrev pub NotesLine : List ℕ → Status → SinkCall → Status → Type 0
 NotesLine line wanted notes answer =
     ((answer ≡ wanted) × Takes line notes) ⊎ ((answer ≡ status.NoMemory) × Keeps notes)
 
--- the line of the refusal went to the notes, or memory was wanted
+-- the line of the refusal went to the notes, or memory ran out
 abbrev pub Notes : Refusal → SinkCall → Status → Type 0
 Notes refusal notes answer =
     ((answer ≡ status_of refusal) × Takes (line_of refusal) notes)
@@ -36,14 +36,20 @@ GainsReport (Some report) notes = Gains report notes
 
 -- the sink failed, a front of the text was written, and its line went to the notes
 pub record IsTextCut (text : List ℕ) (out notes : SinkCall) : Type 0 where
+  -- the sink's count of failures rose
   pub rose : Rose out.count out.count_now
+  -- the sink gained a front of the text
   pub written : Takes text out
+  -- the line of a write fault went to the notes, as far as they took it
   pub noted : Takes (line_of refusal.WriteFault) notes
 
 -- the text was written, the notes failed, and a front of the report was written
 pub record IsCutBehind (text report : List ℕ) (out notes : SinkCall) : Type 0 where
+  -- the count of failures of the notes rose
   pub rose : Rose notes.count notes.count_now
+  -- the sink gained the text
   pub written : Gains text out
+  -- the notes gained a front of the report
   pub noted : Takes report notes
 
 -- the same, where there is a report

@@ -1,4 +1,4 @@
-//! The asks for a text: the source is read, where the ask is about it, and what is due is given.
+//! The asks for a text: the source is read, where the ask is about it, and the due answer is given.
 
 ghost use Rattle.std.specs.Prelude.{Some};
 ghost use Rattle.cob_base.specs.Source.{source_call};
@@ -35,7 +35,7 @@ pub fn answer_restructure<S: Source, K: Sink, N: Sink>(
     }
 }
 
-/// The same, and the report goes to `notes`, behind the result.
+/// The same, and after the result the report goes to `notes`.
 pub fn answer_report<S: Source, K: Sink, N: Sink>(
     alloc: Global,
     source: &mut S,

@@ -1,4 +1,4 @@
-//! What the words ask.
+//! What the words of the command line ask.
 
 ghost use Rattle.std.specs.Prelude.{◌≡◌, map, string_bytes, IfSome};
 ghost use Rattle.restructure_asks.specs.Ask as asks;
@@ -6,12 +6,12 @@ ghost use Rattle.restructure_asks.specs.Ask.{ask_of, ask_of_word, ask_of_two, ru
 
 use cob_tree::digits_value;
 
-/// What is asked.
+/// An ask of the tool.
 #[derive(Clone, Copy, Debug, PartialEq, Eq)]
 pub enum Ask {
     /// To read the source to its end, and to write the result.
     Restructure,
-    /// The same, and to write the report to the notes.
+    /// The same, and to write the report to the notes after it.
     Report,
     /// To read the source to its end, and to write its report.
     Check,
@@ -23,7 +23,7 @@ pub enum Ask {
     Trial(u32),
 }
 
-/// What the words ask; none where they are no ask.
+/// The ask that these words are; none where they aren't an ask.
 pub fn ask_of(words: &[String]) -> Option<Ask>
     ensures asked { result ≡ ask_of (map string_bytes words.now) }
     ensures program { IfSome result (λ ask. HasProgram ask) }
@@ -67,7 +67,7 @@ fn ask_of_two(word: &str, other: &str) -> Option<Ask>
     None
 }
 
-// What a word behind restructure asks.
+// What a word after restructure asks.
 fn report_of(option: &str) -> Option<Ask>
     ensures asked { result ≡ asks.report_of option.now }
     ensures program { IfSome result (λ ask. HasProgram ask) }
@@ -116,7 +116,7 @@ fn run_of(word: &str, option: &str, number: &str) -> Option<Ask>
     }
 }
 
-// The number that 1 to 18 digits spell.
+// The number that 1 to 18 digits spell; none for anything else.
 fn number_of(number: &[u8]) -> Option<u64>
     ensures { result ≡ number_of number.now }
 {

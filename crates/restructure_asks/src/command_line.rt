@@ -24,38 +24,29 @@ usage: restructure_tool restructure [--report] < SOURCE > RESULT
        restructure_tool generate N > SOURCE
        restructure_tool trial N > REPORT
 
-restructure reads a COBOL-85 program from standard input and writes a structured
-program that behaves the same to standard output. Where it can't, standard error
-has a line that says why, and standard output stays empty, but at WRITE FAULT.
-At FLOW further lines show the way to the fault. With --report standard error
-then has the report: what was dropped and added. check writes the report alone.
+Tumgaiba rewrites a COBOL-85 program, full of GO TO, as a structured program
+that behaves the same. Where it can't, standard error has a line that says why.
 
-run reads such a program and runs it for at most N steps, where N has 1 to 18
-digits. What it displays goes to standard output, and standard error has a line
-that says why it didn't stop by itself. Its files are those of the current
-folder; ASSIGN \"NULL:NAME\" is a file that is always empty.
-
-generate writes the program number N of 1 to 1249, full of jumps, and trial the
-report of that program.
-
-Examples:
-       restructure_tool restructure < OLD.cob > NEW.cob
-       restructure_tool restructure --report < OLD.cob > NEW.cob 2> OLD.report
-       restructure_tool check < OLD.cob
-       restructure_tool run --steps 1000000 < OLD.cob
-       restructure_tool generate 12 > JUMPS.cob
-       restructure_tool trial 12
+restructure   write the structured program; with --report standard error then
+              tells what was dropped and added
+check         write that report alone
+run           run the program for at most N steps; its files are those of the
+              current folder, and NULL:NAME is a file that is always empty
+generate      write the program number N of 1 to 1249; trial tells its report
 
 Exit statuses: 0 done, 1 USAGE, 2 NOT SUBSET, 3 FLOW, 4 LIMIT, 5 READ FAULT,
 6 WRITE FAULT, 7 DEVICE FAULT, 8 ABEND, 9 BUDGET, 10 NO MEMORY.
+
+Example: restructure_tool restructure < OLD.cob > NEW.cob
+The manual is docs/USING.md.
 ";
 
-const VERSION: &str = "restructure_tool 0.1.0
-proved with rattle-kit-13f logic dac8208d650f15bf
+const VERSION: &str = "Tumgaiba 0.1.0 (restructure_tool)
+proved with rattle-kit-13b logic dac8208d650f15bf
 ";
 
-/// Does what the command line asks, over any source, sinks and bench: `--help` and `--version` show a
-/// page, and other words are those of `tool`.
+/// Does what the command line asks, over any source, sinks and bench: `--help` and `--version` show
+/// a page, and other words are those of `tool`.
 pub fn program<S: Source, K: Sink, N: Sink>(
     alloc: Global,
     words: Result<Vec<String>, NoMemory>,
@@ -86,7 +77,7 @@ pub fn program<S: Source, K: Sink, N: Sink>(
         (map ⟦<Box<dyn Device> as Watched>⟧.seen bench.old.devices.items)
         (map ⟦<Box<dyn Device> as Watched>⟧.seen bench.new.devices.items) }
 
-    // where memory is wanted for the words
+    // where memory ran out for the words
     ensures wordless { OnErr words (result ≡ Status.NoMemory) }
     ensures ends { OnErr words (Ends None (source_call S.left S.faults source.old source.new)
         (sink_call K.held K.faults out.old out.new)

@@ -11,7 +11,7 @@ use cobol_read::ReadFault;
 use ref_format::FormatFault;
 use std::alloc::Global;
 
-/// The kind and the line, as the line of status 2 tells them.
+/// The kind and the line of a fault of reading, as the line of status 2 gives them.
 pub fn kind_at(alloc: Global, fault: &ReadFault) -> Result<Text, NoMemory>
     ensures { Makes (kinds.kind_at fault.now) result }
 {

@@ -1,10 +1,10 @@
-//! What follows of how a call ends.
+//! What follows from how a call ends.
 
 ghost use Rattle.restructure_asks.specs.Laws.{WordsAreOfTheirAsk, OneAnswerIsDue, DueAnswerComes, AcceptedSourceIsDone, FaultySourceIsRefused, RefusedForFlowIsFaulty, OneRunIsDue, DueRunComes, OneRunIsDueOnFiles, DueRunComesOnFiles, UsageComes, GeneratedComes, ResultComesAgain, WithinLimitAllIsRead};
 
 use fixed_point_laws::results::results_are_fixed;
 
-/// The words of an ask are exactly its own.
+/// Each ask has words of its own: the same words are never two asks.
 pub fn words_are_of_one_ask()
     ensures { WordsAreOfTheirAsk }
 {}
@@ -19,7 +19,7 @@ pub fn source_is_read_to_its_end()
     ensures { WithinLimitAllIsRead }
 {}
 
-/// What is due comes, unless the outside fails or memory is wanted.
+/// The due answer comes, unless a source or sink fails or memory runs out.
 pub fn due_answer_comes()
     ensures due { DueAnswerComes }
     ensures accepted { AcceptedSourceIsDone }
@@ -29,7 +29,8 @@ pub fn due_answer_comes()
     ensures generated { GeneratedComes }
 {}
 
-/// At most one end of a run is due, and it comes, unless the outside fails or memory is wanted.
+/// At most one end of a run is due, and it comes, unless a source, sink or device fails or memory
+/// runs out.
 pub fn due_run_comes()
     ensures one { OneRunIsDue }
     ensures due { DueRunComes }
@@ -37,7 +38,7 @@ pub fn due_run_comes()
     ensures due_on_files { DueRunComesOnFiles }
 {}
 
-/// What was written of a source is written again where it is the source.
+/// A result that was written, given as the source, is written again.
 pub fn result_comes_again()
     ensures { ResultComesAgain }
 {

@@ -1,10 +1,10 @@
-//! What is asked of the tool, from the words to bytes in sinks.
+//! The asks of the tool, from the words to bytes in sinks.
 //!
 //! `tool` is the top call: it does what the words ask, over any source, sinks and bench, and its
-//! contract is the promise of the whole tool (`specs/Tool.antt` is the place to begin). Hold
-//! `ask_of` in `specs/Ask.antt` against the command line, and the lines that tell a refusal, with
-//! their statuses, against `specs/Refusal.antt` and `specs/Kind.antt`. That an answer comes exactly
-//! where it is due is the law `due_answer_comes`, and of a run `due_run_comes`. Only tested, in
+//! contract is the promise of the whole tool (`specs/Tool.antt` is the place to begin). The words
+//! of the command line are defined by `ask_of` in `specs/Ask.antt`, and the lines of a refusal,
+//! with their statuses, by `specs/Refusal.antt` and `specs/Kind.antt`. That an answer comes exactly
+//! where it is due is the law `due_answer_comes`, and for a run `due_run_comes`. Only tested, in
 //! `restructure_tool`: that calls succeed where memory is ample.
 #![tactic(auto)]
 
@@ -44,14 +44,14 @@ pub use status::Status;
 use std::alloc::Global;
 pub use writing::{note, write_text};
 
-/// Does what the words ask, which `Ask` lists. Where it isn't done, `notes` gets a line that says
-/// why, or the lines of a trail.
+/// Does what the words ask; `Ask` lists what they may ask. Where it isn't done, `notes` gets a line
+/// that says why, or the lines of a trail.
 ///
 /// The order of the refusals is that of their causes: words, a fault of the source, those of
 /// reading, too many ranges, a fault of flow, too many nodes, and the result's counts. Each ask but
 /// run makes all that it writes first, and both sinks have room for it before the first byte is
-/// written. A failure of `notes` changes no status, unless it is to get the report; want of room in
-/// it makes the status NoMemory.
+/// written. A failure of `notes` changes no status, unless it is to get the report; where it can't
+/// get room, the status is NoMemory.
 pub fn tool<S: Source, K: Sink, N: Sink>(
     alloc: Global,
     words: &[String],
@@ -65,8 +65,8 @@ pub fn tool<S: Source, K: Sink, N: Sink>(
         (sink_call K.held K.faults out.old out.new)
         (sink_call N.held N.faults notes.old notes.new) result }
 
-    // what a run leaves of the bench, and of the files where the devices tell them that its program
-    // uses; those that it opened are closed
+    // what a run leaves of the bench, and of the files of the devices that its program uses, where
+    // these are known; those that it opened are closed
     ensures over { EndsWithFiles (asked (map string_bytes words.now))
         (source_call S.left S.faults source.old source.new)
         (sink_call K.held K.faults out.old out.new)
@@ -75,13 +75,13 @@ pub fn tool<S: Source, K: Sink, N: Sink>(
         (map ⟦<Box<dyn Device> as Watched>⟧.seen bench.old.devices.items)
         (map ⟦<Box<dyn Device> as Watched>⟧.seen bench.new.devices.items) result }
 
-    // a device that is told as failed did fail, and is gone from the bench
+    // a device that is reported as failed did fail, and is off the bench
     ensures devices { result ≡ Status.DeviceFault → IsDeviceTold
         (sink_call N.held N.faults notes.old notes.new) bench.old.left bench.new.left
         (map ⟦<Box<dyn Device> as Watched>⟧.seen bench.old.devices.items)
         (map ⟦<Box<dyn Device> as Watched>⟧.seen bench.new.devices.items) }
 
-    // where nothing is read the source is as it was, also one that tells nothing
+    // where nothing is read the source is as it was, also one of which nothing is known
     ensures unread { reads (asked (map string_bytes words.now)) ≡ 0 → source.new ≡ source.old }
 
     // where nothing is run the bench is as it was

@@ -1,4 +1,4 @@
-//! What is due to each ask for a text, or want of memory.
+//! The due answer of each ask for a text, or out of memory.
 
 ghost use Rattle.std.specs.Prelude.{ℕ, List, Some};
 ghost use Rattle.cob_base.specs.Answers.{Makes};

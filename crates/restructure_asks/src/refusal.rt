@@ -19,14 +19,14 @@ use std::alloc::Global;
 /// Why an ask isn't done.
 #[derive(Debug, Drop)]
 pub enum Refusal {
-    /// The words are no ask.
+    /// The words aren't an ask.
     Usage,
-    /// The source is refused; never for want of memory, which is `NoMemory`.
+    /// The source is refused; never since memory ran out, which is `NoMemory`.
     Refused(Refused),
     /// The run of this program came to a fault of PERFORM.
     Fault(Program, FlowFault),
     Abend(Abend),
-    /// The program still ran after so many steps, which were asked for.
+    /// The program still ran after so many steps, the number that was asked for.
     Budget(u64),
     /// The device of that name failed.
     Device(Text),
@@ -63,6 +63,7 @@ impl From<Refused> for Refusal {
 }
 
 impl Refusal {
+    /// The status with which an ask that is refused for this reason ends.
     pub fn status(&self) -> Status
         ensures { result ≡ status_of self.now }
     {
@@ -79,7 +80,7 @@ impl Refusal {
         }
     }
 
-    /// The line that tells it, or the lines of a trail, with the last line feed.
+    /// The line that says why, or the lines of a trail, with the line feed at the end.
     pub fn line(&self, alloc: Global) -> Result<Text, NoMemory>
         ensures { Makes (line_of self.now) result }
     {

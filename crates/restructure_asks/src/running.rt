@@ -55,7 +55,7 @@ pub fn answer_run<S: Source, K: Sink, N: Sink>(
     }
 }
 
-// Notes what came of a source, unless its run stopped by itself.
+// Writes to the notes what came of a source, unless its run stopped by itself.
 fn tell<N: Sink>(alloc: Global, steps: u64, came: Came, notes: &mut N) -> Status
     ensures { TellsCame (refusal_of steps came)
         (sink_call N.held N.faults notes.old notes.new) result }
@@ -66,8 +66,8 @@ fn tell<N: Sink>(alloc: Global, steps: u64, came: Came, notes: &mut N) -> Status
     }
 }
 
-// Notes why a run didn't stop by itself. At a write fault of the sink the status says so, and the
-// notes say that or nothing.
+// Writes to the notes why a run didn't stop by itself. At a write fault of the sink the status is
+// that, and the notes get its line or nothing.
 fn tell_why<N: Sink>(alloc: Global, refusal: &Refusal, notes: &mut N) -> Status
     ensures { TellsCame (Some refusal.now)
         (sink_call N.held N.faults notes.old notes.new) result }
@@ -81,7 +81,7 @@ fn tell_why<N: Sink>(alloc: Global, refusal: &Refusal, notes: &mut N) -> Status
     }
 }
 
-// Why a run isn't one that stopped by itself.
+// Why a source has no run that stopped by itself; none where it has.
 fn refusal_of(steps: u64, came: Came) -> Option<Refusal>
     ensures { result ≡ refusal_of steps came }
 {

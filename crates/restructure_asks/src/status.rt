@@ -8,17 +8,17 @@ ghost use Rattle.restructure_asks.specs.Status.{status_number};
 pub enum Status {
     /// The ask was done.
     Done,
-    /// The words are no ask.
+    /// The words aren't an ask.
     Usage,
-    /// The source is no program of the language.
+    /// The source isn't a program of the language.
     NotSubset,
-    /// Control of the program runs into a fault of PERFORM.
+    /// Control of the program comes to a fault of PERFORM.
     Flow,
     /// A counted quantity passes its limit.
     Limit,
     /// The source failed.
     ReadFault,
-    /// The sink of the result failed, and holds a part of it.
+    /// The sink of the result failed; it may hold a part of it.
     WriteFault,
     /// A device failed.
     DeviceFault,
@@ -26,7 +26,7 @@ pub enum Status {
     Abend,
     /// The program still ran after the steps that were asked for.
     Budget,
-    /// Memory was wanted.
+    /// Out of memory.
     NoMemory,
 }
 

@@ -5,8 +5,8 @@ use cob_base::Text;
 /// What is written where nothing is refused.
 #[derive(Drop)]
 pub struct Texts {
-    /// It goes to the result's sink.
+    /// What goes to the result's sink.
     pub text: Text,
-    /// It goes to the notes, behind the text.
+    /// What goes to the notes, after the text.
     pub report: Option<Text>,
 }

@@ -27,7 +27,7 @@ pub fn give<K: Sink, N: Sink>(
     }
 }
 
-// Writes the text, and the report behind it, where there is one.
+// Writes the text, and after it the report, where there is one.
 fn write_texts<K: Sink, N: Sink>(alloc: Global, texts: &Texts, out: &mut K, notes: &mut N) -> Status
     ensures { Writes texts.now (sink_call K.held K.faults out.old out.new)
         (sink_call N.held N.faults notes.old notes.new) result }
@@ -39,8 +39,8 @@ fn write_texts<K: Sink, N: Sink>(alloc: Global, texts: &Texts, out: &mut K, note
     }
 }
 
-/// Writes a text. Both sinks have room, for it and for the line of a failure, before its first byte
-/// is written.
+/// Writes a text. Before its first byte is written, both sinks have room, for it and for the line
+/// of a failure.
 pub fn write_text<K: Sink, N: Sink>(
     alloc: Global,
     text: &[u8],
@@ -66,7 +66,7 @@ pub fn write_text<K: Sink, N: Sink>(
     Status::WriteFault
 }
 
-// Writes a text, and a report to the notes. Both sinks have room before the first byte is written.
+// Writes a text, and a report to the notes. Before the first byte is written, both sinks have room.
 fn write_both<K: Sink, N: Sink>(
     alloc: Global,
     text: &[u8],
@@ -97,7 +97,8 @@ fn write_both<K: Sink, N: Sink>(
     Status::WriteFault
 }
 
-/// Writes the line of a refusal, where there is room for it.
+/// Writes the line of a refusal, where there is room for it. The answer is the refusal's status, or
+/// NoMemory where there is no room.
 pub fn note<N: Sink>(alloc: Global, refusal: &Refusal, notes: &mut N) -> Status
     ensures { Notes refusal.now (sink_call N.held N.faults notes.old notes.new) result }
 {
@@ -116,7 +117,7 @@ pub fn note_if_room<N: Sink>(alloc: Global, refusal: &Refusal, notes: &mut N)
     }
 }
 
-// Writes a line that tells a status, where there is room for it.
+// Writes the line of a status, where there is room for it.
 fn note_line<N: Sink>(line: &[u8], status: Status, notes: &mut N) -> Status
     ensures { NotesLine line.now status (sink_call N.held N.faults notes.old notes.new) result }
 {

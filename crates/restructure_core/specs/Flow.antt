@@ -25,16 +25,21 @@ IsTrailOf program trail = IsFound (never_first_of program.files) (control_of pro
 
 -- no flow path comes to a fault
 pub record IsFaultless (program : Program) : Type 0 where
+  -- its text names no more ranges than their limit
   pub within : IsWithin program
+  -- no flow path comes to a fault
   pub never : HasFlowFault program → ⊥
 
 -- one does, and this trail shows it
 pub record IsFaultyBy (program : Program) (trail : Trail) : Type 0 where
+  -- its text names no more ranges than their limit
   pub within : IsWithin program
+  -- a flow path comes to a fault
   pub faulty : HasFlowFault program
+  -- the trail shows a fault of the program
   pub shown : IsTrailOf program trail
 
--- why neither is told: too many ranges, or want of memory
+-- why neither is given: too many ranges, or out of memory
 abbrev pub IsFlowRefusal : Program → Refused → Type 0
 IsFlowRefusal program (refused.Limit limit) = PassesRanges program limit
 IsFlowRefusal program refused.NoMemory = Unit {0}

@@ -19,6 +19,7 @@ else_limit None second = second
 abbrev pub token_count : Program → ℕ
 token_count program = length (all_tokens (program_units program))
 
+-- the bytes of what is printed of a program
 abbrev pub byte_count : Program → ℕ
 byte_count program = length (printed program)
 

@@ -15,7 +15,9 @@ use Rattle.restructure_core.specs.Flow.{IsFaultyBy}
 
 -- the flow of a program that is within the limits on ranges
 pub record IsClear (program : Program) (summary : Summary) : Type 0 where
+  -- its text names no more ranges than their limit
   pub within : IsWithin program
+  -- this is the summary of its flow, without a fault
   pub flow : IsFaultFree program summary
   -- no more than a text may name
   pub few : length summary.ranges ≤ max_ranges
@@ -27,12 +29,18 @@ IsFlowOf program (flow.Faulty trail) = IsFaultyBy program trail
 
 -- by its summary the program is split into this one, with items that are counted
 pub record IsMadeOf (program : Program) (made : Split) : Type 0 where
+  -- what each range does
   pub summary : Summary
+  -- the summary is the program's
   pub clear : IsClear program summary
+  -- by it the program is split so
   pub split : IsSplitWith program summary made
 
 -- by its summary it passes a limit before it is split
 pub record PassesBefore (program : Program) (limit : Limit) : Type 0 where
+  -- what each range does
   pub summary : Summary
+  -- the summary is the program's
   pub clear : IsClear program summary
+  -- by it the program passes this limit
   pub past : IsSplitFault program summary (split.Limit limit)

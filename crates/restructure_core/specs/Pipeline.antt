@@ -25,14 +25,18 @@ use Rattle.restructure_core.specs.Limit.{result_limit, text_limit}
 -- the bytes aren't read, for a cause that has this refusal
 pub record IsUnread (bytes : List ℕ) (refusal : Refused) : Type 0 where
   pub why : ReadRefusal
+  -- it isn't that memory ran out
   pub some : why ≢ read.NoMemory
+  -- the bytes have this cause
   pub cause : reading.HasCause bytes why
+  -- the refusal is the cause's
   pub is : refusal ≡ of_read_refusal why
 
 -- the bytes are a program that names too many ranges
 pub record IsPastRanges (bytes : List ℕ) (limit : Limit) : Type 0 where
   pub program : Program
   pub reads : Reads bytes program
+  -- it names too many ranges
   pub past : PassesRanges program limit
 
 -- the bytes are this program, a flow path of which comes to a fault
@@ -49,7 +53,9 @@ pub record IsFaultySourceBy (bytes : List ℕ) (program : Program) (trail : Trai
 -- the structured program that a program is split into passes this limit first
 pub record PassesAsResult (program : Program) (limit : Limit) : Type 0 where
   pub made : Split
+  -- the program is split so
   pub is : IsMadeOf program made
+  -- this is the first limit that the result passes
   pub past : result_limit made.program ≡ Some limit
 
 -- a program without a fault of flow passes this limit, before it is split or by the result
@@ -60,15 +66,20 @@ PassesLimit program limit = PassesBefore program limit ⊎ PassesAsResult progra
 pub record IsPastLimit (bytes : List ℕ) (limit : Limit) : Type 0 where
   pub program : Program
   pub reads : Reads bytes program
+  -- it passes this limit
   pub passes : PassesLimit program limit
 
 -- the text of the structured program that a program is split into, which passes no limit, and the
 -- program's report
 pub record IsResultOf (program : Program) (done : Done) : Type 0 where
   pub made : Split
+  -- the program is split so
   pub is : IsMadeOf program made
+  -- the result passes no limit
   pub within : result_limit made.program ≡ None
+  -- the text is what is printed of it
   pub written : done.text ≡ printed made.program
+  -- the report is the program's
   pub reported : IsReportOf program is.summary made.added done.report
 
 -- the text is that of a program which is structured and behaves as the program that the bytes are,
@@ -78,7 +89,9 @@ pub record IsRestructured (bytes : List ℕ) (done : Done) : Type 0 where
   pub reads : Reads bytes program
   pub result : IsResultOf program done
   pub structured : IsStructured result.made.program
+  -- it behaves as the program does
   pub same : SameBehaviour program result.made.program
+  -- the text is read as that very program
   pub read_back : Reads done.text result.made.program
 
 -- the report is that of a program which is restructured to some text
@@ -91,6 +104,7 @@ pub record IsAccepted (bytes : List ℕ) : Type 0 where
   pub program : Program
   pub reads : Reads bytes program
   pub faultless : IsFaultless program
+  -- it passes no limit
   pub within : (limit : Limit) → PassesLimit program limit → ⊥
 
 -- the text of a result that passes no limit, or the limit that it passes first
@@ -114,7 +128,7 @@ IsAnswerTo program (Err (refused.Limit limit)) = PassesLimit program limit
 IsAnswerTo program (Err refused.NoMemory) = Unit {0}
 IsAnswerTo program (Err _) = ⊥
 
--- the cause of each refusal; want of memory may come at any place
+-- the cause of each refusal; memory may run out at any place
 abbrev pub HasCause : List ℕ → Refused → Type 0
 HasCause bytes (refused.NotSubset why) = IsUnread bytes (refused.NotSubset why)
 HasCause bytes (refused.Flow program trail) = IsFaultySourceBy bytes program trail
@@ -122,11 +136,11 @@ HasCause bytes (refused.Limit limit) =
     IsUnread bytes (refused.Limit limit) ⊎ IsPastRanges bytes limit ⊎ IsPastLimit bytes limit
 HasCause bytes refused.NoMemory = Unit {0}
 
--- this refusal, unless memory is wanted
+-- this refusal, unless memory runs out
 abbrev pub IsRefusedBy : {T : Type 0} → Refused → Result T Refused → Type 0
 IsRefusedBy refusal result = (result ≡ Err refusal) ⊎ (result ≡ Err refused.NoMemory)
 
--- the refusal of this program by a trail, unless memory is wanted
+-- the refusal of this program by a trail, unless memory runs out
 abbrev pub IsRefusedByTrail : {T : Type 0} → Program → Result T Refused → Type 0
 IsRefusedByTrail program result = ((trail : Trail) × (result ≡ Err (refused.Flow program trail)))
     ⊎ (result ≡ Err refused.NoMemory)
@@ -136,7 +150,7 @@ abbrev pub IsResultText : List ℕ → Type 0
 IsResultText bytes = (source : List ℕ) × (done : Done) × IsRestructured source done
     × (done.text ≡ bytes)
 
--- the answer has this text, unless memory is wanted
+-- the answer has this text, unless memory runs out
 abbrev pub IsDoneWith : List ℕ → Result Done Refused → Type 0
 IsDoneWith text result =
     ((done : Done) × (result ≡ Ok done) × (done.text ≡ text)) ⊎ (result ≡ Err refused.NoMemory)

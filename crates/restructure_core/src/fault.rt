@@ -9,7 +9,7 @@ use thiserror::Error;
 /// Why a source was refused.
 #[derive(Debug, Drop, Error)]
 pub enum Refused {
-    /// The bytes are no program.
+    /// The bytes aren't a program of the language.
     #[error("{0}")]
     NotSubset(ReadFault),
     /// The bytes are this program, and a flow path of it comes to a fault, which the trail shows.

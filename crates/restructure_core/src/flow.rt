@@ -14,13 +14,14 @@ use std::alloc::Global;
 /// What control of a program comes to.
 #[derive(Debug, Drop)]
 pub enum Flow {
-    /// No flow path comes to a fault; the ranges that flow paths perform are these.
+    /// No flow path comes to a fault; the summary is of the ranges that flow paths perform.
     Clear(Summary),
-    /// One does, as the trail shows.
+    /// A flow path comes to a fault, as the trail shows.
     Faulty(Trail),
 }
 
-/// What control of a program comes to. Limit where it names too many ranges.
+/// Whether a flow path of a program comes to a fault. The errors are Limit, where the program names
+/// too many ranges, and NoMemory.
 #[tactic(auto, using(crate::proofs::Flowing::clear_flow, crate::proofs::Flowing::faulty_flow, crate::proofs::Flowing::flow_past))]
 pub fn flow_of(alloc: Global, program: &Program) -> Result<Flow, Refused>
     requires { 0 < length program.now.paragraphs }

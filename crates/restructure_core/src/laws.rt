@@ -4,7 +4,7 @@ ghost use Rattle.restructure_core.specs.Results.{ResultsReadBack};
 
 use end_to_end_laws::results::readable_results::split_programs_read_back;
 
-/// What is printed of a result that passes no limit reads to it.
+/// The printed text of a result that passes no limit is read back as that result.
 pub fn results_read_back()
     ensures { ResultsReadBack }
 {

@@ -1,9 +1,9 @@
 //! Bytes of a source to bytes of the result.
 //!
-//! `restructure` reads a source, asks whether a flow path of its program comes to a fault, splits
-//! it into procedures, and prints these, within the limits. Hold `specs/Pipeline` against what each
-//! answer tells: that the result is structured, behaves as the source and is read back is a clause
-//! of it.
+//! `restructure` reads a source, finds out whether a flow path of its program comes to a fault,
+//! splits the program into procedures, and prints these, within the limits. What each answer means
+//! `specs/Pipeline` says, with a clause each for: the result is structured, it behaves as the
+//! source, and it is read back.
 #![tactic(auto)]
 
 mod fault;

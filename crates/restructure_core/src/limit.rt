@@ -27,7 +27,7 @@ pub fn print_result(alloc: Global, program: &Program) -> Result<Text, Refused>
     }
 }
 
-/// The limit of items or else of terms that it passes.
+/// The limit on items that it passes, or else the one on terms.
 fn first_limit(alloc: Global, program: &Program) -> Result<Option<Limit>, NoMemory>
     ensures { Makes (limits.part_limit program.now) result }
 {
@@ -38,7 +38,7 @@ fn first_limit(alloc: Global, program: &Program) -> Result<Option<Limit>, NoMemo
     }
 }
 
-/// The text, or the limit of it that is passed.
+/// The text, or the first of its limits that it passes.
 fn print_text(alloc: Global, program: &Program) -> Result<Text, Refused>
     ensures { IsText program.now result }
 {
@@ -54,7 +54,7 @@ fn print_text(alloc: Global, program: &Program) -> Result<Text, Refused>
     }
 }
 
-/// How many tokens the units have. More than a number counts are more than memory holds.
+/// How many tokens the units have. A count past the largest `usize` is out of memory.
 fn token_count(units: &[PrintUnit]) -> Result<usize, NoMemory>
     ensures { Makes (length (all_tokens units.now)) result }
 {
@@ -68,7 +68,7 @@ fn token_count(units: &[PrintUnit]) -> Result<usize, NoMemory>
     Ok(count)
 }
 
-/// The first of the two limits that is passed.
+/// The first of the limits on tokens and bytes that is passed.
 fn first_past(tokens: usize, bytes: usize) -> Option<Limit>
     ensures { result ≡ limits.first_past tokens bytes }
 {

@@ -32,17 +32,18 @@ pub struct Done {
     pub report: Report,
 }
 
-/// Restructures a source.
+/// Restructures a source: its text, structured, with a report.
 ///
 /// The errors are those of reading, then too many ranges, then a fault of flow, then the limits:
 /// labels and statements of the lowered ranges, and of the result its levels, the bytes of its
-/// items, the terms of a condition or expression, its tokens, and the bytes of its text.
+/// items, the terms of a condition or expression, its tokens, and the bytes of its text; and out of
+/// memory.
 pub fn restructure(alloc: Global, bytes: &[u8]) -> Result<Done, Refused>
-    // what each answer tells
+    // what each answer means
     ensures done { IfOk result (IsRestructured bytes.now) }
     ensures refused { IfErr result (HasCause bytes.now) }
 
-    // and where it comes
+    // and when it comes
     ensures unread { (refusal : answers.Refused) →
         IsUnread bytes.now refusal → IsRefusedBy refusal result }
     ensures ranges { (limit : limits.Limit) →
@@ -53,7 +54,7 @@ pub fn restructure(alloc: Global, bytes: &[u8]) -> Result<Done, Refused>
         IsPastLimit bytes.now limit → IsRefusedBy (Refused.Limit limit) result }
     ensures accepted { IsAccepted bytes.now → IsOk result ⊎ (result ≡ Err Refused.NoMemory) }
 
-    // what it wrote, it writes again
+    // of a result's text the same text is made again
     ensures again { IsResultText bytes.now → IsDoneWith bytes.now result }
 {
     results_are_fixed();
@@ -76,7 +77,7 @@ pub fn check(alloc: Global, bytes: &[u8]) -> Result<Report, Refused>
     }
 }
 
-// The same, by what each answer tells.
+// Restructures a source; the contract has what each answer means.
 #[tactic(auto, using(crate::proofs::ReadSome::read_some, crate::proofs::Answering::refusals_answer))]
 fn restructured(alloc: Global, bytes: &[u8]) -> Result<Done, Refused>
     ensures done { IfOk result (IsRestructured bytes.now) }
@@ -95,7 +96,7 @@ fn restructured(alloc: Global, bytes: &[u8]) -> Result<Done, Refused>
     }
 }
 
-/// The text of what a program without a fault of flow is split into, and its report.
+/// The text of the procedures that a program without a fault of flow is split into, and the report.
 #[tactic(auto, using(crate::proofs::Answering::splits_answer))]
 fn restructure_program(alloc: Global, program: &Program, summary: &Summary) -> Result<Done, Refused>
     requires flow { HasFlow program.now summary.now }

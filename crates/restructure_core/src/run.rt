@@ -1,11 +1,11 @@
-//! A source to what comes of its run.
+//! Runs a source.
 //!
-//! `run_source` reads a source and runs its program over a bench for at most so many steps. Hold
-//! `Comes` in specs/Answers.antt against what it answers, a clause an answer: `Reads` and
-//! `HasCause` of `cobol_read` say which program the source is, or why it is none, and where the
-//! program has no statement on files (`is_plain`) `RunsAs` of `cobol_run` says what its run comes
-//! to (ISO 1989:1985). Over devices that tell their files `ComesOver` says what the run of each
-//! program comes to.
+//! `run_source` reads a source and runs its program over a bench for at most so many steps. What it
+//! answers `Comes` in specs/run/Answers.antt says, with a clause for each answer: `Reads` and
+//! `HasCause` of `cobol_read` say which program the source is, or why it is none; where the program
+//! has no statement on files (`is_plain`), `RunsAs` of `cobol_run` says what its run comes to (ISO
+//! 1989:1985). Over devices whose files are known `ComesOver` says what the run of any program
+//! comes to.
 
 ghost use Rattle.std.specs.Prelude.{◌≤◌, map, vec_len};
 ghost use Rattle.cob_base.specs.Faults.{Rose};
@@ -25,14 +25,15 @@ use std::alloc::Global;
 pub enum Came {
     /// Its program ran.
     Ran(Program, Ran),
-    /// It is refused; never for want of memory, which is `NoMemory`.
+    /// It is refused; never since memory ran out, which is `NoMemory`.
     Refused(ReadRefusal),
-    /// Memory was wanted before the program ran.
+    /// Memory ran out before the program ran.
     NoMemory,
 }
 
-/// Reads a source and runs its program over a bench for at most so many steps. What it displays
-/// goes to `out`, which is made ready before each display. Both stay as they are where nothing ran.
+/// Reads a source and runs its program over a bench for at most so many steps. What the program
+/// displays goes to `out`, in which room is made before each display. Where nothing runs, `bench`
+/// and `out` stay as they are.
 #[tactic(auto, using(crate::proofs::run_lemmas::AnswerLemmas::runs_answer))]
 pub fn run_source<K: Sink>(
     alloc: Global,

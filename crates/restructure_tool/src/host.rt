@@ -1,4 +1,4 @@
-//! What the host gives and takes: the words, and the exit status.
+//! What passes between the host and the tool: the words, and the exit status.
 
 ghost use Rattle.std.specs.Prelude.{◌≡◌};
 ghost use Rattle.std.specs.Process.{exit_status};
@@ -9,7 +9,7 @@ use restructure_asks::Status;
 use std::process::ExitCode;
 use std::{env, io};
 
-/// The words behind the program's name; none where they can't be had as text, which is no ask.
+/// The words after the program's name; none where they aren't text, which is not an ask.
 pub fn arguments(rt: &HostRuntime) -> Result<Vec<String>, NoMemory> {
     match env::args(rt) {
         Ok(words) => Ok(words.skip(1).collect(rt.alloc())?),

@@ -1,9 +1,9 @@
 //! A COBOL program in, a structured program that behaves the same out.
 //!
-//! `main` gives `program` of `restructure_asks`, whose promise is its own, the words, standard input,
-//! output and error, and a bench with the current folder under the name DISK and a device NULL; the
-//! exit status is the number of its status. Only tested: that calls succeed where memory is ample,
-//! what programs do with files of a folder, and the help's text.
+//! `main` hands the words, standard input, output and error, and a bench with the current folder
+//! under the name DISK and a device NULL to `program` of `restructure_asks`, whose promise is also
+//! that of `main`; the exit status is the number of its status. Only tested: that calls succeed
+//! where memory is ample, what programs do with files of a folder, and the help's text.
 #![tactic(auto)]
 
 mod host;

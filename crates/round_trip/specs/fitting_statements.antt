@@ -1,7 +1,7 @@
 -- Tests of the parts of statements, and statements whose parts pass them.
 pub mod Fits
 pub mod Statement
--- Where EXIT SECTION and EXIT PERFORM may stand.
+-- Where EXIT SECTION and EXIT PERFORM may be.
 pub mod Scope
 -- What parts that pass a test spell.
 pub mod Spelling

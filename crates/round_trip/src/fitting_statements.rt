@@ -1,6 +1,6 @@
-//! Statements that have in them what they are to, told by tests: they spell what is printed of
-//! them, and those of a PROCEDURE DIVISION that is read with no fault pass the tests, over open
-//! parts and open tests of parts (`specs/fitting_statements/Fits.antt`). Nothing here runs.
+//! Statements whose parts pass tests: they spell what is printed of them, and those of a PROCEDURE
+//! DIVISION that is read with no fault pass the tests, over open parts and open tests of parts
+//! (`specs/fitting_statements/Fits.antt`). Nothing here runs.
 
 pub mod fit_control;
 mod laws;

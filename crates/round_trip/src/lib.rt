@@ -1,10 +1,10 @@
-//! What is printed of a program reads back to it: laws alone. Nothing here runs.
+//! What is printed of a program is read back as it: laws alone. Nothing here runs.
 //!
 //! In reading order: `printable` says which programs can be printed, `spelled_forms` and `spelling`
 //! that what is printed of their parts spells these by the grammar, `procedures` that paragraphs
 //! are found again by their labels, `declarations` that entries declare what they did, and
-//! `fitting_statements` that statements which pass tests of their parts are spelled. The crate
-//! `end_to_end_laws` puts them together.
+//! `fitting_statements` that statements whose parts pass tests are spelled. The crate
+//! `end_to_end_laws` combines them.
 #![tactic(auto)]
 
 pub mod declarations;

@@ -1,5 +1,5 @@
-//! Programs that can be printed: each of their names, numbers, literals and pictures is one that a
-//! text can have, so each of their lines has tokens alone that a line may have.
+//! Programs that can be printed: a text can have each of their names, numbers, literals and
+//! pictures, so each of their lines has only tokens that a line may have.
 //!
 //! `specs/printable/Whole.antt` says which these are. Nothing here runs.
 

@@ -1,6 +1,6 @@
-//! The table of procedures that a program's own paragraphs tell, by which what is printed of it is
-//! read: the printed tokens tell exactly it, those of its source but for places, and in it each
-//! label of a paragraph names what it is to. Nothing here runs.
+//! The table of procedures that a program's own paragraphs declare, with which what is printed of
+//! it is read: the printed tokens declare exactly this table, those of its source the same except
+//! for places, and in it each label of a paragraph names what it has to. Nothing here runs.
 
 mod laws;
 pub mod readable_exprs;

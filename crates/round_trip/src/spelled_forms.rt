@@ -1,5 +1,5 @@
-//! Which kinds of tokens spell a value of a form: laws on each maker of forms, written as the forms
-//! are, so that what is printed can be shown to be spelled by the grammar. Nothing here runs.
+//! Which kinds of tokens spell a value of a form: laws on each maker of forms, with which what is
+//! printed is shown to be spelled by the grammar. Nothing here runs.
 
 ghost use Rattle.round_trip.specs.spelled_forms.Laws.{TextsAreSpelled};
 

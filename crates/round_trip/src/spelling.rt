@@ -1,5 +1,5 @@
-//! The parts of statements that a program is read with spell what they are printed with. Nothing
-//! here runs.
+//! The parts of statements with which a program is read are spelled by what is printed of them.
+//! Nothing here runs.
 
 pub mod cond_spelling;
 pub mod data_spelling;

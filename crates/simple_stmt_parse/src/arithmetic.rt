@@ -2,7 +2,7 @@
 //! and references (`Parts`).
 //!
 //! Each function reads exactly by the form of its name in `stmt_forms` (ISO 1989:1985, PROCEDURE
-//! DIVISION), which is said by `Reads`: what it takes and makes, and where and why it stops.
+//! DIVISION), as `Reads` says: what it takes and makes, and where and why it stops.
 
 mod arithmetic;
 mod work;

@@ -3,7 +3,7 @@
 //!
 //! `verbs` has those without arithmetic, `arithmetic` the five arithmetic statements up to their
 //! arms. Each function reads exactly by the form of its name in `cobol_grammar::stmt_forms`, which
-//! is what to hold against the standard.
+//! is what is to be compared with the standard.
 #![tactic(auto)]
 
 pub mod arithmetic;

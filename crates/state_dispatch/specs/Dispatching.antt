@@ -23,8 +23,10 @@ taken_trees (label ∷ labels) nodes =
 
 -- the node at the label can go: its tree is bare, and no leaf jumps to it
 pub record MayGo (label : Label) (nodes : List Node) : Type 0 where
+  -- there is a node at the label
   pub has : has_node nodes label ≡ true
   pub is_bare : tree_in nodes label ≡ bare
+  -- no leaf jumps to it
   pub unused : all_leaves_to label nodes ≡ 0
 
 -- where the nodes at the labels go, but the entry's, only that is left, and is bare

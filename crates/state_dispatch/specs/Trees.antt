@@ -7,6 +7,7 @@ use Rattle.branch_tree.specs.declared.chooser.Test.TheVariants as test
 use Rattle.branch_tree.specs.declared.tree.Leaves.TheVariants as leaves
 use Rattle.loop_rules.specs.declared.forms.Turning.{Turning}
 
+-- the trees of these nodes
 abbrev pub node_trees : List Node → List Tree
 node_trees [] = []
 node_trees (node ∷ nodes) = node.tree ∷ node_trees nodes

@@ -21,7 +21,7 @@ use loop_rules::{Turning, looped};
 use std::alloc::Global;
 use std::collections::VecDeque;
 
-/// Takes the trees at the labels, in their order, into room that is there.
+/// Takes out the trees at the labels, in their order; there is room for them.
 fn take_trees(alloc: Global, work: &mut Work, labels: &[Label], room: Vec<Tree>) -> Vec<Tree>
     requires none { vec_len room ≡ 0 }
     requires enough { length labels.now ≤ vec_capacity room }
@@ -39,7 +39,7 @@ fn take_trees(alloc: Global, work: &mut Work, labels: &[Label], room: Vec<Tree>)
     trees
 }
 
-/// Takes away the nodes at the labels, but the entry's.
+/// Removes the nodes at the labels, except the entry's.
 fn leave_entry(work: &mut Work, labels: &[Label])
     requires { Clears work.old.entry labels.now (seen_nodes work.old.nodes) }
     ensures { WithNodes (one_node work.old.entry bare) work.old work.new }
@@ -58,7 +58,7 @@ fn return_if(returns: bool) -> End
     if returns { End::Return } else { End::Dead }
 }
 
-/// The loop over a choice among the arms by the state, behind these pieces, in room that is there.
+/// The loop over a choice among the arms by the state, after these pieces, which have room for it.
 fn gathered(
     alloc: Global,
     arms: Vec<Tree>,
@@ -94,7 +94,7 @@ fn gathered(
     tree
 }
 
-/// Makes one node of all nodes, whose labels these are, behind these pieces, in room that is there.
+/// Makes one node of all nodes, whose labels these are, after these pieces, which have room for it.
 fn gather(
     alloc: Global,
     work: &mut Work,

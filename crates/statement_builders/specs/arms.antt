@@ -1,4 +1,4 @@
--- where the procedures of ranges stand
+-- where the procedures of ranges are
 pub mod Placing
 -- what becomes of empty arms
 pub mod EmptyArms

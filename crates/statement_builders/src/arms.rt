@@ -1,9 +1,9 @@
-//! Statements with arms, by the lists that their arms hold, as they stand in a structured program:
-//! an empty list that is required holds CONTINUE, and other empty arms are left out.
+//! Statements with arms, from the lists that their arms hold, as a structured program has them: an
+//! empty list that is required holds CONTINUE, and other empty arms are left out.
 //!
-//! `specs/arms/EmptyArms.antt` says which arms continue and which go. `specs/arms/Written.antt`
-//! names what is written of statements, whatever the items of cells: it is the theory's
-//! `written_stmt`, in `control_flow_theory/specs/rendering/Rendering.antt`.
+//! `specs/arms/EmptyArms.antt` says which empty arms hold CONTINUE and which are left out.
+//! `specs/arms/Written.antt` names what is written for statements, whatever the items of cells: it
+//! is the theory's `written_stmt`, in `control_flow_theory/specs/rendering/Rendering.antt`.
 
 mod choosing;
 mod empty_arms;

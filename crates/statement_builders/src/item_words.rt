@@ -1,10 +1,9 @@
-//! Words on cells as statements, conditions and choices by the items that stand for the cells.
+//! Words on cells as statements, conditions and choices on the items of the cells.
 //!
-//! The definition that the contracts hold them against is the theory's `written_stmt`, in
+//! The contracts define them by the theory's `written_stmt`, in
 //! `control_flow_theory/specs/rendering/Rendering.antt`, with the names of
 //! `cobol_theory/specs/cell_serving/Naming.antt`. An item is one of a program's entries, and a word
-//! of the program's own names no added item: where that isn't so, the answer is as if there were no
-//! memory.
+//! of the program's own names no added item: where that isn't so, the answer is out of memory.
 
 mod cells;
 mod choices;

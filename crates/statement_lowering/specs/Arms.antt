@@ -22,23 +22,28 @@ use Rattle.statement_lowering.specs.LowerList.{Setting, flow_facts_by}
 
 -- the arms as the theory has them, in a section with this last paragraph
 
+-- the arms of IF; an empty ELSE is missing
 abbrev pub if_arms : (met unmet : List Stmt) → ℕ → language.Arms
 if_arms met unmet last =
     language.given (seen_stmts last met)
     (arm_before (else_of (map (seen last) unmet)) language.done)
 
+-- the statements of a phrase, which may be missing
 abbrev pub seen_phrase : ℕ → Option (List Stmt) → Option language.Stmts
 seen_phrase last None = None
 seen_phrase last (Some stmts) = Some (seen_stmts last stmts)
 
+-- the arms of the WHENs, and WHEN OTHER, which may be missing
 abbrev pub when_arms : List When → Option (List Stmt) → ℕ → language.Arms
 when_arms whens other last =
     branches_before (map (seen_when last) whens)
     (arm_before (seen_phrase last other) language.done)
 
+-- the two arms of READ or of arithmetic, either of which may be missing
 abbrev pub phrase_arms : Arms → ℕ → language.Arms
 phrase_arms arms last = both_arms (seen_both last arms)
 
+-- one arm alone
 abbrev pub one_arm : List Stmt → ℕ → language.Arms
 one_arm stmts last = language.given (seen_stmts last stmts) language.done
 
@@ -64,6 +69,7 @@ module _ (telling : LoweringContext) (leaving : EscapeTargets) where
   AddsArmOf stmts place after old new =
       (s : Setting telling leaving) → AddsArm (arm_tree s stmts place after) old new
 
+  -- one arm more, which has these statements or is missing
   abbrev pub AddsPhrase : Option (List Stmt) → ℕ → JumpTarget → (old new : List code.Tree) → Type 0
   AddsPhrase stmts place after old new =
       (s : Setting telling leaving) → AddsArm (phrase_tree s stmts place after) old new
@@ -89,17 +95,19 @@ module _ (telling : LoweringContext) (leaving : EscapeTargets) where
 abbrev pub missing_end : Bool → JumpTarget → graph.End
 missing_end is_dead after = if is_dead then graph.Dead else seen_target after
 
--- where EXIT PERFORM leads
+-- the target to which EXIT PERFORM leads
 abbrev pub left_by : Bool → EscapeTargets → JumpTarget
 left_by false leaving = leaving.behind_loop
 left_by true leaving = leaving.cycle
 
 -- of statements that may be missing
 
+-- the statements of a phrase name own items, or it is missing
 abbrev pub phrase_own : Option (List Stmt) → Bool
 phrase_own None = true
 phrase_own (Some stmts) = stmts_own stmts
 
+-- how many places the statements of a phrase take
 abbrev pub phrase_places : Option (List Stmt) → ℕ
 phrase_places None = 0
 phrase_places (Some stmts) = sum_by stmt_places stmts

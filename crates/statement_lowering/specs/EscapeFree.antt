@@ -17,33 +17,34 @@ use Rattle.statement_lowering.specs.declared.escape_free.StmtKind.{StmtKind}
 use Rattle.statement_lowering.specs.declared.escape_free.StmtKind.TheVariants as kind
 use Rattle.statement_lowering.specs.LowerList.{Along}
 
--- what a statement is in a tree, if no escape stands in it
+-- what a statement is in a tree, if there is no escape in it
 abbrev pub kind_by : FlowFacts → language.Stmt → StmtKind
 kind_by told (language.Do act) = if skips told act then kind.Nothing else kind.Stands
 kind_by told language.StopRun = kind.Stops
 kind_by told _ = kind.Stands
 
--- whatever lowering is told, and in whatever section
+-- whatever lowering knows, and in whatever section
 abbrev pub IsKind : Stmt → StmtKind → Type 0
 IsKind stmt found =
     (files : List FileEntry) (returning : List (List ℕ)) (last : ℕ) →
     found ≡ kind_by (flow_facts_of files returning) (seen last stmt)
 
--- once it is cut it has an escape, or none
+-- whether the statement has an escape once it is cut
 abbrev pub Escapes : FlowFacts → Stmt → Bool → Type 0
 Escapes told stmt escapes =
     (last : ℕ) → whole (cut told (seen last stmt)) ≡ (if escapes then false else true)
 
+-- whether control can come to what follows the statement
 abbrev pub Completes : FlowFacts → Stmt → Bool → Type 0
 Completes told stmt is = (last : ℕ) → is ≡ completes told (seen last stmt)
 
--- the statement, cut, behind a body
+-- the statement, cut, after a body
 abbrev pub AddsCut : FlowFacts → Stmt → (old new : List Piece) → Type 0
 AddsCut told stmt old new =
     (last : ℕ) →
     seen_body new ≡ followed (seen_body old) (alone (cut told (seen last stmt)))
 
--- along it, wherever it stands
+-- along it, wherever it is
 abbrev pub RunsWhole : FlowFacts → Stmt → Option End → (old new : List Piece) → Type 0
 RunsWhole told stmt end old new =
     (last : ℕ) (place_of : ℕ → ℕ) (place : ℕ) (leaving : lower.EscapeTargets) (after : graph.End) →

@@ -62,7 +62,7 @@ abbrev pub end_or : Option End → JumpTarget → graph.End
 end_or None after = seen_target after
 end_or (Some end) after = seen_end end
 
--- the tree ends before the loop's head, behind what stands there
+-- the tree ends before the loop's head, after what is there
 abbrev pub Begins : Option language.Control → ℕ → (old new : List Piece) → End → Type 0
 Begins control place old new end =
     (seen_body new ≡ followed (seen_body old) (start_by control place))

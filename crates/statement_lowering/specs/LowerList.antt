@@ -18,28 +18,39 @@ use Rattle.lowering_labels.specs.loop_nodes.Loops.{before}
 use Rattle.statement_lowering.specs.declared.context.LoweringContext.{LoweringContext}
 use Rattle.statement_lowering.specs.declared.context.EscapeTargets.{EscapeTargets}
 
+-- what lowering knows
 abbrev pub flow_facts_by : LoweringContext → FlowFacts
 flow_facts_by telling = flow_facts_of telling.files.now telling.returning.now
 
 -- the theory's words for where what leaves a rest goes on, in a section with this last paragraph
 pub record AreEscapeTargets (leaving : EscapeTargets) (last : ℕ)
     (theirs : lower.EscapeTargets) : Type 0 where
+  -- after the sentence
   pub sentence : theirs.sentence ≡ seen_target leaving.sentence
+  -- at the end of the paragraph
   pub paragraph : theirs.paragraph ≡ seen_target leaving.paragraph
+  -- at the end of the section
   pub section : theirs.section last ≡ seen_target leaving.section
+  -- after the innermost loop
   pub loop : theirs.loop ≡ seen_target leaving.behind_loop
+  -- at the next turn of that loop
   pub cycle : theirs.cycle ≡ seen_target leaving.cycle
 
--- where statements may stand: the places of paragraphs, and a section that is left so
+-- where statements may be: the places of paragraphs, and a section that is left so
 pub record Setting (telling : LoweringContext) (leaving : EscapeTargets) : Type 0 where
+  -- the place of each paragraph
   pub place_of : ℕ → ℕ
+  -- the last paragraph of the section
   pub last : ℕ
+  -- where what leaves a rest goes on
   pub theirs : lower.EscapeTargets
+  -- the table has these places
   pub at : AreAt telling.layout.now.places.items telling.layout.now.end place_of
+  -- the section is left so
   pub leaves : AreEscapeTargets leaving last theirs
 
--- from one body to another, towards what stands behind: the tree, where it ends by itself; else
--- what is behind, further on
+-- from one body to another, towards what follows: the tree, where it ends by itself; else
+-- what is after, further on
 abbrev pub Along : Option End → Stmts → Stmts → (graph.Tree → graph.Tree) → Type 0
 Along None old new made = (behind : graph.Tree) → before old (made behind) ≡ before new behind
 Along (Some end) old new made =

@@ -21,6 +21,7 @@ fn picked(by: Picker, arms: Items<Tree>) -> End
     End::Pick { by, arms }
 }
 
+/// The choice of an IF, with these arms.
 pub fn pick_if(alloc: Global, cond: &Cond, arms: Items<Tree>) -> Result<End, NoMemory>
     ensures { IfOk result (λ end. seen_end end ≡ Pick (If (test_of cond.now)) (seen_trees arms)) }
 {
@@ -33,7 +34,7 @@ pub fn pick_if(alloc: Global, cond: &Cond, arms: Items<Tree>) -> Result<End, NoM
     }
 }
 
-/// Zero is zero.
+/// The condition that zero is zero, which always holds.
 fn always() -> Cond
     ensures { result ≡ always }
 {
@@ -80,6 +81,7 @@ fn evaluate_chooser(
     })
 }
 
+/// The choice of an EVALUATE, with these arms.
 pub fn pick_evaluate(
     alloc: Global,
     subject: &Subject,
@@ -99,6 +101,7 @@ pub fn pick_evaluate(
     }
 }
 
+/// The choice of a READ, with these arms.
 pub fn pick_read(
     alloc: Global,
     file: u32,
@@ -133,6 +136,7 @@ fn arith_chooser(alloc: Global, calc: &Calc, into: &Items<Target>) -> Result<Cho
     Ok(Chooser::Arith { calc, into })
 }
 
+/// The choice of arithmetic with a phrase, with these arms.
 pub fn pick_arith(
     alloc: Global,
     calc: &Calc,

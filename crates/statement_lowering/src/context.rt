@@ -1,4 +1,4 @@
-//! What goes along with statements.
+//! What lowering carries with it through statements.
 
 ghost use Rattle.std.specs.Prelude.{◌≡◌, ◌≤◌, drop, length};
 
@@ -6,8 +6,8 @@ use cob_base::Items;
 use cob_tree::{FileEntry, Stmt};
 use lowering_labels::points::{JumpTarget, PlaceTable};
 
-/// What lowering is told: the files, the exits of the ranges that return by their entries, and the
-/// places of paragraphs.
+/// What lowering knows of the program: the files, the exits of the ranges that return by their
+/// entries, and the places of paragraphs.
 #[derive(Clone, Copy)]
 pub struct LoweringContext<'a> {
     pub files: &'a [FileEntry],
@@ -15,9 +15,9 @@ pub struct LoweringContext<'a> {
     pub layout: &'a PlaceTable,
 }
 
-/// Where what leaves a rest goes on: behind its sentence, at the end of its paragraph or of the
-/// last one of its section, behind the innermost loop that holds it, and at the next turn of that
-/// loop.
+/// Where control that leaves a rest goes on: after its sentence, at the end of its paragraph or of
+/// the last one of its section, after the innermost loop that holds it, and at the next turn of
+/// that loop.
 #[derive(Clone, Copy)]
 pub struct EscapeTargets {
     pub sentence: JumpTarget,
@@ -27,8 +27,8 @@ pub struct EscapeTargets {
     pub cycle: JumpTarget,
 }
 
-/// What a rest is lowered with: what is told, where what leaves the rest goes on, and the
-/// continuation behind it.
+/// What a rest is lowered with: what is known of the program, where control that leaves the rest
+/// goes on, and the continuation after it.
 #[derive(Clone, Copy)]
 pub struct RestContext<'a> {
     pub telling: &'a LoweringContext<'a>,

@@ -1,7 +1,7 @@
 //! The rests of a program by place: the statements from there to the end of their list, and where
-//! control goes on behind them.
+//! control goes on after them.
 //!
-//! One table serves all ranges: in it a paragraph's end is a return, in whose place a range puts
+//! One table serves all ranges: in it a paragraph's end is a return, which a range replaces by
 //! where it goes on there.
 
 mod continuation;

@@ -11,13 +11,13 @@ use cob_tree::Stmt;
 use program_facts::completion::cut_stmt;
 use std::alloc::Global;
 
-/// What a statement without an escape is in a tree.
+/// What a statement without an escape becomes in a tree.
 #[derive(Clone, Copy)]
 pub enum StmtKind {
     /// It does nothing, and is left out.
     Nothing,
     Stops,
-    /// It stands in the body.
+    /// It is a statement of the body.
     Stands,
 }
 
@@ -66,7 +66,7 @@ fn push_cut(
     Ok(())
 }
 
-/// Goes along a statement without an escape, which can complete or can't.
+/// Lowers a statement without an escape, which completes or doesn't.
 pub fn run_whole(
     alloc: Global,
     body: &mut Vec<Piece>,

@@ -1,9 +1,9 @@
-//! The trees of rests: going along statements from a place on.
+//! The trees of rests: lowers statements from a place on.
 //!
-//! `lower_rest` goes along a list and adds to a body; it answers how the tree ends, or none where
-//! it comes to the list's end, behind which the caller goes on. Hold it against `build` of
-//! `control_flow_theory/specs/lowering/Lower`, and `turn_tree` and `loop_tree` against
-//! `loop_nodes`.
+//! `lower_rest` takes the statements of a list in order and adds to a body; it answers how the tree
+//! ends, or none where it comes to the list's end, after which the caller goes on. It is to be
+//! compared with `build` of `control_flow_theory/specs/lowering/Lower`, and `turn_tree` and
+//! `loop_tree` with `loop_nodes`.
 #![tactic(auto)]
 
 mod choices;

@@ -37,7 +37,7 @@ pub fn turn_leaf(control: &Control, place: u32) -> JumpTarget
     JumpTarget::Jump(loop_back_label(control, place))
 }
 
-/// How a tree ends that went along statements to this end, or to where a continuation follows.
+/// How a tree ends whose statements came to this end, or else to their continuation.
 pub fn end_or(end: Option<End>, after: &JumpTarget) -> End
     ensures { seen_end result ≡ end_or end after.now }
 {
@@ -102,7 +102,7 @@ fn head_tree(
     Ok(tree)
 }
 
-/// The tree at a loop's head, or at its test or step, of which not each loop has one.
+/// The tree at a loop's head, or at its test or step, which not every loop has.
 pub fn loop_tree(
     alloc: Global,
     control: &Control,

@@ -1,4 +1,4 @@
-//! Going along statements.
+//! Lowers the statements of a list.
 
 ghost use Rattle.std.specs.Prelude.{◌≡◌, ◌+◌, ◌<◌, ◌^◌, [], true, false, is_some, map, slice_get, sum_by, IfOk, OnOk, IsTrue, Some};
 ghost use Rattle.cob_tree.specs.Places.{arms_places, stmt_places, when_places};
@@ -28,7 +28,7 @@ use lowering_labels::points::{JumpTarget, jump_target_of, point, stmt_size, stmt
 use program_facts::completion::{ends_at_end, stmt_facts};
 use std::alloc::Global;
 
-/// Goes along statements from a place on, with that continuation behind them: adds to the body, and
+/// Lowers statements from a place on, with that continuation after them: adds to the body, and
 /// answers how the tree ends, or none at the end of the list.
 #[cycle(run)]
 pub fn lower_rest(
@@ -71,7 +71,7 @@ pub fn lower_rest(
     Ok(None)
 }
 
-/// Goes along a statement, with that continuation behind it.
+/// Lowers a statement, with that continuation after it.
 #[cycle(run)]
 fn run_stmt(
     alloc: Global,

@@ -1,3 +1,3 @@
--- What is left of VARYING behind its first parts; the other definitions are the forms of
+-- What is left of VARYING after its first parts; the other definitions are the forms of
 -- `stmt_forms`.
 pub mod Step

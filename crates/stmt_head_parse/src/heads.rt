@@ -1,9 +1,9 @@
-//! Reads what stands of a statement before and between the statements that it holds, over any
-//! readers of operands, references, conditions and names (`Parts`).
+//! Reads what a statement has before and between the statements that it holds, over any readers of
+//! operands, references, conditions and names (`Parts`).
 //!
 //! Each function reads exactly by the form of its name in `stmt_forms` (ISO 1989:1985, PROCEDURE
-//! DIVISION), which is said by `Reads`. None of them calls itself: the lists of statements that are
-//! held are read by a crate above.
+//! DIVISION), as `Reads` says. None of them calls itself: the lists of statements that are held are
+//! read by a crate above.
 
 mod arms;
 mod choice;

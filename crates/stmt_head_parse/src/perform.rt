@@ -2,7 +2,7 @@
 //! conditions and names (`Parts`).
 //!
 //! Each function reads exactly by the form of its name in `stmt_forms` (ISO 1989:1985, PROCEDURE
-//! DIVISION), which is said by `Reads`.
+//! DIVISION), as `Reads` says.
 
 mod control;
 

@@ -11,6 +11,7 @@ use Rattle.stored_forms.specs.Packed.{fill_count, halves_of, last_half, minus_ha
 -- so many bytes
 pub record AreBytes (size : ℕ) (bytes : List ℕ) : Type 0 where
   pub count : length bytes ≡ size
+  -- each is below 256
   pub small : All (λ byte. byte < 256) bytes
 
 -- ---- what is written
@@ -65,7 +66,9 @@ Tells sign signed value =
 -- the half bytes are zeros that fill, the value's digits, and a sign that tells it
 pub record IsPacked (bytes : List ℕ) (digits : ℕ) (signed : Bool) (value : ℤ) : Type 0 where
   pub short : unsigned_abs value < 10 ^ digits
+  -- the last half byte tells the sign
   pub sign : Tells (last_half bytes) signed value
+  -- the half bytes are these
   pub halves : halves_of bytes
       ≡ replicate (fill_count digits) 0 ++ low_digits 10 digits (unsigned_abs value)
       ++ last_half bytes ∷ []
@@ -104,7 +107,9 @@ BinaryBytesAreOne =
 -- but for signs that tell it both: C and F, and of zero D too
 pub record SameButSign (one other : List ℕ) (signed : Bool) (value : ℤ) : Type 0 where
   pub number : number_halves one ≡ number_halves other
+  -- the sign of the one tells the value
   pub one_sign : Tells (last_half one) signed value
+  -- and so does that of the other
   pub other_sign : Tells (last_half other) signed value
 
 -- a value is read from the same half bytes of a number alone

@@ -1,4 +1,4 @@
--- A packed item: a half byte for each digit, and one for the sign behind them.
+-- A packed item: a half byte for each digit, and one for the sign after them.
 use Rattle.std.specs.Prelude.{ℕ, ◌+◌, ◌-◌, ◌*◌, ◌/◌, ◌%◌, Bool, true, false, ◌&&◌, ◌||◌, ◌==◌, List, [], ◌∷◌, ◌++◌, length, take, drop, replicate, slice_index, Option, Some, None, ℤ, pos, negsuc, neg_ℤ, unsigned_abs, nat_le, if◌then◌else◌}
 use Rattle.std.specs.List.{list_all}
 use Rattle.std.specs.Option.{option_and_then}

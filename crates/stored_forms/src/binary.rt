@@ -1,4 +1,4 @@
-//! Binary items: two's complement, the highest byte first.
+//! Binary items: two's complement, the most significant byte first.
 
 ghost use Rattle.std.specs.Prelude.{◌≡◌, ◌*◌, ◌^◌, ◌<◌, ◌≤◌, length, unsigned_abs};
 ghost use Rattle.std.specs.Int.Digits.{number_from_digits};
@@ -21,7 +21,7 @@ pub fn binary_size(digits: u8) -> u32
     }
 }
 
-// How many numbers so many bytes can tell.
+// How many numbers so many bytes can hold.
 fn count_of(size: usize) -> u128
     requires { size ≤ 8 }
     ensures { result ≡ 256 ^ size }
@@ -42,7 +42,7 @@ fn twos_complement(size: usize, value: i128) -> u64
     }
 }
 
-// Puts the low bytes of the number, the highest first.
+// Puts the low bytes of the number, the most significant first.
 fn put_bytes(number: u64, into: &mut [u8])
     ensures { into.new ≡ low_digits 256 (length into.old) number }
 {
@@ -64,7 +64,7 @@ pub fn binary_write(value: i128, digits: u8, signed: bool, into: &mut [u8])
     put_bytes(twos_complement(into.len(), value), into);
 }
 
-// The number that the bytes are, the highest first.
+// The number that the bytes spell, the most significant first.
 fn number_of(bytes: &[u8]) -> u64
     requires { length bytes.now ≤ 8 }
     ensures value { result ≡ number_from_digits 256 bytes.now }

@@ -3,7 +3,8 @@
 ghost use Rattle.std.specs.Prelude.{◌≡◌, ◌≤◌};
 ghost use Rattle.stored_forms.specs.Item.{is_held};
 
-// Whether the item holds the value: it has few enough digits, and a sign where one is needed.
+// Whether the item can hold the value: this has few enough digits, and the item a sign where one is
+// needed.
 pub fn is_held(value: i128, digits: u8, signed: bool) -> bool
     requires { digits ≤ 18 }
     ensures { result ≡ is_held value digits signed }

@@ -1,8 +1,8 @@
 //! How number items of USAGE BINARY and PACKED-DECIMAL are stored.
 //!
-//! Both are written and read in place, with no memory taken. ISO 1989:1985 leaves their bytes to the
+//! Both are written and read in place, without allocating. ISO 1989:1985 leaves their bytes to the
 //! implementor (the USAGE clause): `specs/Binary.antt` and `specs/Packed.antt` are this project's
-//! choice, a rule a definition, and the calls give exactly that. `laws` says that these are right:
+//! choice, with a definition for each rule, and the calls give exactly that. `laws` supports these:
 //! what is written reads back, reading is the rule on all bytes, and no two values have the same
 //! bytes. Values and bytes that are known from outside are tested.
 #![tactic(auto)]

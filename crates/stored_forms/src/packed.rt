@@ -5,7 +5,7 @@ ghost use Rattle.stored_forms.specs.Item.{IsHeld};
 ghost use Rattle.stored_forms.specs.Places.{low_digits};
 ghost use Rattle.stored_forms.specs.Packed.{decimal_number, halves_of, packed_bytes, packed_size, packed_value, pair_byte, sign_half, value_by_sign};
 
-// A half byte counts so many.
+// How many values a half byte has.
 const HALF: u8 = 16;
 
 // The half bytes for a sign.
@@ -44,7 +44,7 @@ fn pair_byte(pair: u8) -> u8
     pair / 10 * HALF + pair % 10
 }
 
-// Puts the low digits of the number, two in a byte, the highest first.
+// Puts the low digits of the number, two in a byte, the most significant first.
 fn put_pairs(number: u64, into: &mut [u8])
     ensures { into.new ≡ map pair_byte (low_digits 100 (length into.old) number) }
 {
@@ -69,7 +69,7 @@ pub fn packed_write(value: i128, digits: u8, signed: bool, into: &mut [u8])
     into[last] = (number % 10) as u8 * HALF + sign_half(value, signed);
 }
 
-// The number that the half bytes are as digits, where none is above 9.
+// The number that the half bytes spell as digits, where none is above 9.
 fn number_of_pairs(bytes: &[u8]) -> Option<u64>
     requires { length bytes.now ≤ 9 }
     ensures value { result ≡ decimal_number (halves_of bytes.now) }
@@ -87,7 +87,7 @@ fn number_of_pairs(bytes: &[u8]) -> Option<u64>
     Some(number)
 }
 
-// Whether what fills the front, where something does, is 0.
+// Whether the half byte that fills the front, where there is one, is 0.
 fn is_filled(digits: u8, first: u8) -> bool
     ensures yes { IsTrue result → digits % 2 ≡ 0 → first / 16 ≡ 0 }
     ensures no { IsFalse result → (digits % 2 ≡ 0) × (0 < first / 16) }
@@ -108,8 +108,8 @@ fn value_by_sign(sign: u8, signed: bool, number: u64) -> Option<i128>
 
 /// Reads the value that the item stores.
 ///
-/// `None` where a digit is above 9, what fills isn't 0, or the sign is another one than C, D and F,
-/// or is D and the item has no sign.
+/// `None` where a digit is above 9, the filling half byte isn't 0, or the sign is none of C, D and
+/// F, or is D and the item has no sign.
 pub fn packed_read(bytes: &[u8], digits: u8, signed: bool) -> Option<i128>
     requires some_digits { 1 ≤ digits }
     requires digits { digits ≤ 18 }

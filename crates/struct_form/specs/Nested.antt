@@ -1,4 +1,4 @@
--- Tests of the tree: no jump stands in it, and each PERFORM of paragraphs names one later
+-- Tests of the tree: there is no jump in it, and each PERFORM of paragraphs names one later
 -- paragraph.
 use Rattle.std.specs.Prelude.{ℕ, suc, Bool, true, false, ◌==◌, ◌&&◌, nat_lt, List, [], ◌∷◌, map, is_some, is_none}
 use Rattle.cob_tree.specs.declared.stmt.Stmt.{Stmt, fold-Stmt}
@@ -9,10 +9,11 @@ use Rattle.cob_tree.specs.declared.program.Sentence.{Sentence}
 use Rattle.cob_tree.specs.declared.program.Paragraph.{Paragraph}
 use Rattle.control_flow_theory.specs.language.All.{all, all_if}
 
--- a paragraph past this one, by itself, of so many
+-- the range is one paragraph by itself, past this one, of so many
 abbrev pub names_later : (count here entry exit : ℕ) → Bool
 names_later count here entry exit = entry == exit && nat_lt here entry && nat_lt entry count
 
+-- one level of a statement
 abbrev pub nests_step : ℕ → ℕ → Stmt-F Bool Bool Bool → Bool
 nests_step count here (Stmt-F.Arith calc into arms) = arms
 nests_step count here (Stmt-F.Read file into arms) = arms
@@ -29,24 +30,31 @@ nests_step count here Stmt-F.ExitSection = false
 nests_step count here (Stmt-F.ExitPerform cycle) = false
 nests_step count here _ = true
 
+-- one level of a statement's arms
 abbrev pub arms_step : Arms-F Bool Bool Bool → Bool
 arms_step arms = all_if arms.first && all_if arms.second
 
+-- one level of a WHEN
 abbrev pub when_step : When-F Bool Bool Bool → Bool
 when_step when = all when.stmts
 
+-- of a statement in this one of so many paragraphs
 abbrev pub stmt_nests : ℕ → ℕ → Stmt → Bool
 stmt_nests count here = fold-Stmt Bool Bool Bool (nests_step count here) arms_step when_step
 
+-- of a statement's arms
 abbrev pub arms_nest : ℕ → ℕ → Arms → Bool
 arms_nest count here = fold-Arms Bool Bool Bool (nests_step count here) arms_step when_step
 
+-- of a WHEN
 abbrev pub when_nests : ℕ → ℕ → When → Bool
 when_nests count here = fold-When Bool Bool Bool (nests_step count here) arms_step when_step
 
+-- of these statements
 abbrev pub stmts_nest : ℕ → ℕ → List Stmt → Bool
 stmts_nest count here stmts = all (map (stmt_nests count here) stmts)
 
+-- of these WHENs
 abbrev pub whens_nest : ℕ → ℕ → List When → Bool
 whens_nest count here whens = all (map (when_nests count here) whens)
 

@@ -12,6 +12,7 @@ use Rattle.control_flow_theory.specs.language.Structured as control
 
 -- EXIT without a further word acts on nothing, so control doesn't tell it from other statements
 
+-- one level of a statement
 abbrev pub exitless_step : Stmt-F Bool Bool Bool → Bool
 exitless_step (Stmt-F.Arith calc into arms) = arms
 exitless_step (Stmt-F.Read file into arms) = arms
@@ -21,9 +22,11 @@ exitless_step (Stmt-F.Loop control body) = all body
 exitless_step Stmt-F.Exit = false
 exitless_step _ = true
 
+-- one level of a statement's arms
 abbrev pub exitless_arms : Arms-F Bool Bool Bool → Bool
 exitless_arms arms = all_if arms.first && all_if arms.second
 
+-- one level of a WHEN
 abbrev pub exitless_when : When-F Bool Bool Bool → Bool
 exitless_when when = all when.stmts
 
@@ -31,12 +34,15 @@ exitless_when when = all when.stmts
 abbrev pub exitless : Stmt → Bool
 exitless = fold-Stmt Bool Bool Bool exitless_step exitless_arms exitless_when
 
+-- no EXIT is in a statement's arms
 abbrev pub arms_exitless : Arms → Bool
 arms_exitless = fold-Arms Bool Bool Bool exitless_step exitless_arms exitless_when
 
+-- no EXIT is in a WHEN
 abbrev pub when_exitless : When → Bool
 when_exitless = fold-When Bool Bool Bool exitless_step exitless_arms exitless_when
 
+-- none of these statements is or holds an EXIT
 abbrev pub stmts_exitless : List Stmt → Bool
 stmts_exitless stmts = all (map exitless stmts)
 

@@ -1,7 +1,7 @@
-//! Whether a program is structured: paragraphs that each perform later ones alone, without a jump.
+//! Whether a program is structured: paragraphs that perform only later ones, without a jump.
 //!
-//! `specs/Structured.antt` says what that is, over the control of a program. The tests walk the
-//! tree itself, take no memory, and are shown to be those of control in `proofs/`.
+//! `specs/Structured.antt` defines this by the control of a program. The tests walk the tree itself
+//! without allocating; `proofs/` shows that they are those of control.
 #![tactic(auto)]
 
 ghost use Rattle.std.specs.Prelude.{◌↔◌, IsTrue};
@@ -16,7 +16,7 @@ use nested::paragraphs_nest;
 use performed::each_performed;
 use stops::first_stops;
 
-/// The program is structured.
+/// Whether the program is structured.
 #[tactic(auto, using(crate::proofs::Structured::structured_nests, crate::proofs::Structured::structured_stops))]
 pub fn is_structured(program: &Program) -> bool
     ensures { IsTrue result ↔ IsStructured program.now }

@@ -6,7 +6,8 @@ ghost use Rattle.struct_form.specs.Nested.{names_later, stmt_nests, arms_nest, s
 use cob_base::Items;
 use cob_tree::{Arms, Paragraph, Stmt, When};
 
-/// No jump stands in it, and each PERFORM of paragraphs names one later than this one.
+/// Whether a statement holds no jump, and each PERFORM of paragraphs in it names one later than
+/// this one.
 #[cycle(nests)]
 fn stmt_nests(stmt: &Stmt, count: usize, here: usize) -> bool
     ensures { result ≡ stmt_nests count here stmt.now }
@@ -93,7 +94,8 @@ fn paragraph_nests(paragraph: &Paragraph, count: usize, here: usize) -> bool
     }
 }
 
-/// Each is named, in no section, and of one sentence that nests.
+/// Whether each paragraph has a name, is in no section, and has one sentence, whose statements
+/// nest.
 pub fn paragraphs_nest(paragraphs: &[Paragraph], count: usize) -> bool
     ensures { result ≡ paragraphs_nest count 0 paragraphs.now }
 {

@@ -6,7 +6,7 @@ ghost use Rattle.struct_form.specs.Performed.{stmt_performs, arms_perform, stmts
 use cob_base::Items;
 use cob_tree::{Arms, Paragraph, Stmt, When};
 
-/// The statement is or holds a PERFORM from this paragraph on.
+/// Whether the statement is or holds a PERFORM from this paragraph on.
 #[cycle(performs)]
 fn stmt_performs(stmt: &Stmt, number: usize) -> bool
     ensures { result ≡ stmt_performs number stmt.now }
@@ -78,7 +78,7 @@ fn paragraph_performs(paragraph: &Paragraph, number: usize) -> bool
     false
 }
 
-/// Some of these paragraphs performs it.
+/// Whether some of these paragraphs performs it.
 fn some_performs(paragraphs: &[Paragraph], number: usize) -> bool
     ensures { result ≡ some_performs number paragraphs.now }
 {
@@ -90,7 +90,7 @@ fn some_performs(paragraphs: &[Paragraph], number: usize) -> bool
     false
 }
 
-/// Each paragraph but the first is performed from an earlier one.
+/// Whether each paragraph but the first is performed from an earlier one.
 pub fn each_performed(paragraphs: &[Paragraph]) -> bool
     ensures { IsTrue result ↔ EachPerformed paragraphs.now }
 {

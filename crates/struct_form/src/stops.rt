@@ -14,7 +14,7 @@ fn ends_in_stop(stmts: &[Stmt]) -> bool
     }
 }
 
-/// The first paragraph's first sentence ends in STOP RUN.
+/// Whether the first paragraph's first sentence ends in STOP RUN.
 pub fn first_stops(paragraphs: &[Paragraph]) -> bool
     ensures { result ≡ first_stops paragraphs.now }
 {

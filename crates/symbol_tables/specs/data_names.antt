@@ -1,4 +1,4 @@
--- The groups that an entry stands in.
+-- The groups that an entry is in.
 pub mod Grouping
 -- Entries and files as references see them.
 pub mod Names

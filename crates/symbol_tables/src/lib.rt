@@ -2,8 +2,8 @@
 //!
 //! `data_names` looks references up among files and entries, with qualification (ISO 1989:1985,
 //! uniqueness of reference); `procedure_names` finds paragraphs and sections by their headers,
-//! before statements are read. Each call gives exactly what `specs` says of its table, or that
-//! memory is out.
+//! before statements are read. Each call answers exactly what `specs` says of its table, or out of
+//! memory.
 #![tactic(auto)]
 
 pub mod data_names;

@@ -6,7 +6,7 @@ use Rattle.control_flow_theory.specs.semantics.Graph.{Label, Tree, tree, End, Tr
 use Rattle.control_flow_theory.specs.graph_rules.Shapes.{followed, alone, arms_stmts, joined, joined_once, once_arms}
 use Rattle.control_flow_theory.specs.graph_rules.Reduced.{Graph, tree_in, with_tree}
 
--- a choice as a statement behind a body, and then this end
+-- a choice as a statement after a body, and then this end
 abbrev pub choice_then : Stmts → Picker → Trees → End → Tree
 choice_then body picker arms end =
     tree (followed body (alone (Choose picker (arms_stmts arms)))) end

@@ -7,12 +7,12 @@ use Rattle.branch_tree.specs.declared.tree.Tree as code
 use Rattle.tree_rules.specs.declared.putting.Substituted.{Substituted}
 use Rattle.tree_rules.specs.declared.putting.Substituted.TheVariants as placed
 
--- it stands there; or it is given back, and nothing changed
+-- it is there; or it is given back, and nothing changed
 abbrev pub Puts : Option code.Tree → Label → Tree → Tree → Tree → Type 0
 Puts None label by old new = new ≡ inlined label by old
 Puts (Some back) label by old new = (new ≡ old) × (seen_tree back ≡ by)
 
--- the same where there may be no such jump, which is told
+-- the same where it is known whether there is such a jump
 abbrev pub Places : Substituted → Label → Tree → Tree → Tree → Type 0
 Places placed.Done label by old new = (new ≡ inlined label by old) × (leaves_to label old ≡ 1)
 Places (placed.Elsewhere back) label by old new =

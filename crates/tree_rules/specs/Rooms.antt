@@ -5,11 +5,12 @@ use Rattle.branch_tree.specs.declared.tree.Tree.{Tree, fold-Tree}
 use Rattle.branch_tree.specs.declared.tree.End.{End, fold-End}
 use Rattle.branch_tree.specs.declared.tree.End.TheOpen.{Tree-F, End-F, Piece-F}
 
+-- each of these holds
 abbrev pub all_true : List Bool → Bool
 all_true [] = true
 all_true (first ∷ others) = first && all_true others
 
--- of an end, where it is told whether there is room before it
+-- of an end, where it is known whether there is room before it
 abbrev pub end_room_step : End-F (Bool → Bool) Bool Bool → Bool → Bool
 end_room_step (End-F.Pick by arms) room = room && all_true arms
 end_room_step (End-F.Jump to) room = true
@@ -21,12 +22,15 @@ end_room_step End-F.Dead room = true
 abbrev pub piece_room_step : Piece-F (Bool → Bool) Bool Bool → Bool
 piece_room_step piece = true
 
+-- of a tree: its end, where it is known whether the body has room
 abbrev pub tree_room_step : Tree-F (Bool → Bool) Bool Bool → Bool
 tree_room_step t = t.end (nat_lt (deque_len t.body) (deque_capacity t.body))
 
+-- the tree has such room
 abbrev pub has_room : Tree → Bool
 has_room = fold-Tree (Bool → Bool) Bool Bool end_room_step piece_room_step tree_room_step
 
+-- the end has such room, where it is known whether there is room before it
 abbrev pub end_has_room : End → Bool → Bool
 end_has_room = fold-End (Bool → Bool) Bool Bool end_room_step piece_room_step tree_room_step
 

@@ -1,4 +1,4 @@
-//! Inline: a node in the place of the one jump to it.
+//! Inline: a node takes the place of the only jump to it.
 
 ghost use Rattle.std.specs.Prelude.{◌≡◌, true, OnOk, OnErr};
 ghost use Rattle.control_flow_theory.specs.semantics.Doing.{is_above};
@@ -13,8 +13,8 @@ use cob_base::NoMemory;
 use graph_rewriting::Work;
 use std::alloc::Global;
 
-/// Whether exactly one leaf of the graph jumps to the node with the label, from another node, and it
-/// isn't the entry.
+/// Whether exactly one leaf of the graph jumps to the node with the label, from another node, and
+/// it isn't the entry.
 pub fn may_inline(work: &Work, label: Label) -> bool
     ensures { result ≡ may_inline (seen_work work.now) label }
 {
@@ -32,8 +32,8 @@ pub fn may_inline(work: &Work, label: Label) -> bool
     }
 }
 
-/// Puts the node, on which Inline applies, in the place of the jump to it, which a leaf of the other
-/// has. Without memory the graph stays.
+/// Replaces the jump to the node, on which Inline applies, by the node; a leaf of the other node
+/// has this jump. Without memory the graph stays.
 fn put_into(alloc: Global, work: &mut Work, label: Label, from: Label) -> Result<(), NoMemory>
     requires applies { may_inline (seen_work work.old) label ≡ true }
     requires has { has_node (seen_work work.old).nodes from ≡ true }

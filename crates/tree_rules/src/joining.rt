@@ -1,4 +1,4 @@
-//! Join.
+//! Join: choices that become statements.
 
 ghost use Rattle.std.specs.Prelude.{◌≡◌, ◌<◌, ◌||◌, All, OnOk};
 ghost use Rattle.std.specs.VecDeque.{deque_len, deque_capacity};
@@ -17,8 +17,8 @@ use graph_rewriting::Work;
 use std::alloc::Global;
 use std::mem;
 
-/// Makes room for one more piece in each tree that ends in a choice. Without memory there is room
-/// in some of them.
+/// Makes room for one more piece in each tree that ends in a choice. Without memory only some of
+/// them have room.
 #[cycle(room)]
 fn make_room(tree: &mut Tree) -> Result<(), NoMemory>
     ensures same { seen_tree tree.new ≡ seen_tree tree.old }
@@ -49,7 +49,8 @@ fn make_room_in(arms: &mut [Tree]) -> Result<(), NoMemory>
     Ok(())
 }
 
-/// The choice as a statement behind the tree's body, for which there is room, and then the end.
+/// Adds the choice as a statement at the end of the tree's body, for which there is room, and sets
+/// the end.
 fn join_then(tree: &mut Tree, by: Picker, arms: Items<Tree>, end: End)
     requires { deque_len tree.old.body < deque_capacity tree.old.body }
     ensures { seen_tree tree.new ≡ choice_then (seen_body tree.old.body.items) (seen_picker by)
@@ -59,8 +60,8 @@ fn join_then(tree: &mut Tree, by: Picker, arms: Items<Tree>, end: End)
     tree.end_by(end);
 }
 
-/// The choice behind the tree's body, for which there is room: as a statement, where its arms have
-/// at most one target, which is told.
+/// Puts the choice after the tree's body, for which there is room: as a statement, where its arms
+/// have at most one target; the answer says whether they have.
 fn join_pick(tree: &mut Tree, by: Picker, arms: Items<Tree>) -> bool
     requires { deque_len tree.old.body < deque_capacity tree.old.body }
     ensures tree { seen_tree tree.new ≡ join_by (seen_body tree.old.body.items) (seen_picker by)
@@ -85,7 +86,7 @@ fn either(one: bool, other: bool) -> bool
     one || other
 }
 
-/// All joins of a tree in which there is room, inner ones first: true where there is one.
+/// Makes all joins of a tree in which there is room, inner ones first: true where there is one.
 #[cycle(join)]
 fn join_all(tree: &mut Tree) -> bool
     requires { HasRoom tree.old }
@@ -129,8 +130,8 @@ pub fn join(tree: &mut Tree) -> Result<bool, NoMemory>
     Ok(join_all(tree))
 }
 
-/// Join on the tree of the node with the label: true where a choice of it is joined. Without memory,
-/// as where none is, the graph stays.
+/// Join on the tree of the node with the label: true where a choice of it is joined. Without
+/// memory, as where none is, the graph stays.
 pub fn join_at(alloc: Global, work: &mut Work, label: Label) -> Result<bool, NoMemory>
     ensures { JoinsAt result label (seen_work work.old) (seen_work work.new) }
 {

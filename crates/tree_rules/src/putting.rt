@@ -1,4 +1,4 @@
-//! A tree in the place of a jump.
+//! Puts a tree in the place of a jump.
 
 ghost use Rattle.std.specs.Prelude.{◌≡◌, ◌≤◌};
 ghost use Rattle.control_flow_theory.specs.graph_rules.Shapes.{leaves_to, arms_leaves_to};
@@ -9,16 +9,16 @@ use branch_tree::{End, Label, Tree};
 use cob_base::Items;
 use std::mem;
 
-/// What became of a tree that was to be put: it stands there; it is given back, as no leaf jumps to
-/// the label; or it is given back for want of memory.
+/// What became of a tree that was to take the place of a jump: it did; it is given back, since no
+/// leaf jumps to the label; or it is given back, since there is no memory.
 pub enum Substituted {
     Done,
     Elsewhere(Tree),
     NoRoom(Tree),
 }
 
-/// Puts a tree in the place of a jump to the label, where there is one. Without memory it comes
-/// back, and the tree stays.
+/// Puts a tree in the place of a jump to the label, where there is one. Without memory the new one
+/// is given back, and the tree stays.
 #[cycle(place)]
 fn place(tree: &mut Tree, label: Label, by: Tree) -> Substituted
     requires { leaves_to label (seen_tree tree.old) ≤ 1 }
@@ -71,8 +71,8 @@ fn place_one(arms: &mut [Tree], label: Label, by: Tree) -> Substituted
     Substituted::Elsewhere(by)
 }
 
-/// Puts a tree in the place of the one jump to the label. Without memory it comes back, and the
-/// tree stays.
+/// Puts a tree in the place of the one jump to the label. Without memory the new one is given back,
+/// and the tree stays.
 pub fn put(tree: &mut Tree, label: Label, by: Tree) -> Option<Tree>
     requires { leaves_to label (seen_tree tree.old) ≡ 1 }
     ensures { Puts result label (seen_tree by) (seen_tree tree.old) (seen_tree tree.new) }

@@ -1,4 +1,4 @@
-//! Where the live leaves of trees lead.
+//! The targets of the live leaves of trees.
 
 ghost use Rattle.std.specs.Prelude.{◌≡◌};
 ghost use Rattle.branch_tree.specs.Tree.{seen_tree, seen_end, seen_trees};
@@ -16,7 +16,7 @@ pub enum Targets {
     Several,
 }
 
-/// The targets of some leaves, and of others.
+/// The targets of some leaves together with those of others.
 fn both_targets(first: &Targets, others: Targets) -> Targets
     ensures { seen_targets result ≡ both_targets (seen_targets first.now) (seen_targets others) }
 {
@@ -65,7 +65,7 @@ pub fn arms_targets(arms: &[Tree]) -> Targets
     targets
 }
 
-/// The targets of all live leaves of a tree but those that jump to the label.
+/// The targets of all live leaves of a tree, except those that jump to the label.
 #[cycle(others)]
 pub fn other_targets(tree: &Tree, label: Label) -> Targets
     ensures { seen_targets result ≡ other_targets label (seen_tree tree.now) }

@@ -11,11 +11,13 @@ use Rattle.unparser.specs.Token.{Tokens}
 use Rattle.unparser.specs.Place.{expr_tokens}
 use Rattle.unparser.specs.Condition.{not_tokens, cond_tokens}
 
+-- the subject of EVALUATE
 abbrev pub subject_tokens : Program → Subject → Tokens
 subject_tokens program subject.True = kind.Word (codes "TRUE") ∷ []
 subject_tokens program subject.False = kind.Word (codes "FALSE") ∷ []
 subject_tokens program (subject.Value expr) = expr_tokens program expr false
 
+-- the end of a range of values, if it is one
 abbrev pub thru_tokens : Program → Option Expr → Tokens
 thru_tokens program None = []
 thru_tokens program (Some to) = kind.Word (codes "THRU") ∷ expr_tokens program to false

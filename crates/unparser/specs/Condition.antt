@@ -14,6 +14,7 @@ use Rattle.cobol_lex.specs.declared.token.TokenKind.TheVariants as kind
 use Rattle.unparser.specs.Token.{Tokens, in_parentheses, enclosed}
 use Rattle.unparser.specs.Place.{place_tokens, expr_tokens}
 
+-- a relation
 abbrev pub rel_tokens : Rel → Tokens
 rel_tokens rel.Equal = kind.Mark equal_sign ∷ []
 rel_tokens rel.NotEqual = kind.Word (codes "NOT") ∷ kind.Mark equal_sign ∷ []
@@ -22,19 +23,22 @@ rel_tokens rel.Greater = kind.Mark greater_sign ∷ []
 rel_tokens rel.LessEqual = kind.LessEqual ∷ []
 rel_tokens rel.GreaterEqual = kind.GreaterEqual ∷ []
 
+-- NOT, where it is asked for
 abbrev pub not_tokens : (said : Bool) → Tokens
 not_tokens said = if said then kind.Word (codes "NOT") ∷ [] else []
 
+-- the word of a class
 abbrev pub class_word : ClassKind → List ℕ
 class_word Numeric = codes "NUMERIC"
 class_word Alphabetic = codes "ALPHABETIC"
 
+-- the word of a sign
 abbrev pub sign_word : SignKind → List ℕ
 sign_word Positive = codes "POSITIVE"
 sign_word Negative = codes "NEGATIVE"
 sign_word Zero = codes "ZERO"
 
--- AND and OR are in parentheses under AND and OR, and what NOT stands before always is
+-- AND and OR are in parentheses under AND and OR, and so is always what follows NOT
 abbrev pub cond_step : Program → Cond-F (Bool → Tokens) → (within : Bool) → Tokens
 cond_step program (Cond-F.Relation left rel right) within =
     expr_tokens program left false ++ rel_tokens rel ++ expr_tokens program right false

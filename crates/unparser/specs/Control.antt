@@ -9,15 +9,17 @@ use Rattle.unparser.specs.Token.{Tokens}
 use Rattle.unparser.specs.Place.{place_tokens, operand_tokens}
 use Rattle.unparser.specs.Condition.{cond_tokens}
 
--- TEST BEFORE isn't printed
+-- WITH TEST AFTER, where the test comes after; TEST BEFORE isn't printed
 abbrev pub after_tokens : (after : Bool) → Tokens
 after_tokens after =
     if after then kind.Word (codes "WITH") ∷ kind.Word (codes "TEST") ∷ kind.Word (codes "AFTER") ∷ []
     else []
 
+-- UNTIL and its condition
 abbrev pub until_tokens : Program → Cond → Tokens
 until_tokens program cond = kind.Word (codes "UNTIL") ∷ cond_tokens program cond false
 
+-- the control of a loop; a PERFORM once has none
 abbrev pub control_tokens : Program → Control → Tokens
 control_tokens program control.Once = []
 control_tokens program (control.Times count) =

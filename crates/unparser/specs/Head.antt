@@ -13,43 +13,50 @@ use Rattle.unparser.specs.Control.{control_tokens}
 use Rattle.unparser.specs.Arithmetic.{arithmetic_tokens}
 use Rattle.unparser.specs.File.{file_tokens, files_tokens, openings_tokens, label_tokens, labels_tokens}
 
+-- WITH NO ADVANCING, or nothing
 abbrev pub advance_tokens : (advance : Bool) → Tokens
 advance_tokens advance =
     if advance then []
     else kind.Word (codes "WITH") ∷ kind.Word (codes "NO") ∷ kind.Word (codes "ADVANCING") ∷ []
 
+-- DISPLAY of these operands
 abbrev pub display_tokens : Program → List Operand → (advance : Bool) → Tokens
 display_tokens program items advance =
     kind.Word (codes "DISPLAY") ∷ operands_tokens program items ++ advance_tokens advance
 
+-- these places
 abbrev pub places_tokens : Program → List Place → Tokens
 places_tokens program places = joined (map (place_tokens program) places)
 
+-- INTO and its place, if there is one
 abbrev pub into_tokens : Program → Option Place → Tokens
 into_tokens program None = []
 into_tokens program (Some place) = kind.Word (codes "INTO") ∷ place_tokens program place
 
+-- FROM and its operand, if there is one
 abbrev pub from_tokens : Program → Option Operand → Tokens
 from_tokens program None = []
 from_tokens program (Some operand) = kind.Word (codes "FROM") ∷ operand_tokens program operand
 
--- THRU stands where entry and exit differ
+-- the range of a PERFORM; THRU is there where entry and exit differ
 abbrev pub range_tokens : Program → (entry exit : ℕ) → Tokens
 range_tokens program entry exit =
     label_tokens program entry
     ++ (if entry == exit then [] else kind.Word (codes "THRU") ∷ label_tokens program exit)
 
+-- GO TO DEPENDING of these paragraphs
 abbrev pub go_depending_tokens : Program → List ℕ → Place → Tokens
 go_depending_tokens program to on =
     kind.Word (codes "GO") ∷ kind.Word (codes "TO") ∷ labels_tokens program to
     ++ kind.Word (codes "DEPENDING") ∷ kind.Word (codes "ON") ∷ place_tokens program on
 
+-- EXIT PERFORM, or with CYCLE
 abbrev pub exit_perform_tokens : (cycle : Bool) → Tokens
 exit_perform_tokens cycle =
     kind.Word (codes "EXIT") ∷ kind.Word (codes "PERFORM")
     ∷ (if cycle then kind.Word (codes "CYCLE") ∷ [] else [])
 
--- of statements that leave what they stand in, and of CONTINUE
+-- of statements that leave what they are in, and of CONTINUE
 abbrev pub jump_head : {A B C : Type 0} → Program → Stmt-F A B C → Tokens
 jump_head program (Stmt-F.Go to) =
     kind.Word (codes "GO") ∷ kind.Word (codes "TO") ∷ label_tokens program to

@@ -7,9 +7,11 @@ use Rattle.cobol_lex.specs.Byte.{is_digit}
 use Rattle.cobol_lex.specs.declared.token.TokenKind.{TokenKind}
 use Rattle.cobol_lex.specs.declared.token.TokenKind.TheVariants as kind
 
+-- the byte is a capital letter
 abbrev pub is_capital : ℕ → Bool
 is_capital b = nat_le capital_a b && nat_le b capital_z
 
+-- the byte is a capital letter or a hyphen
 abbrev pub is_reserved_byte : ℕ → Bool
 is_reserved_byte b = is_capital b || b == hyphen
 
@@ -24,16 +26,17 @@ is_reserved_shape text =
 abbrev pub procedure_token : List ℕ → TokenKind
 procedure_token name = if list_all is_digit name then kind.Digits name else kind.Word name
 
--- a number with the digits that it was written with
+-- a number as a token, with the digits that it was written with
 abbrev pub number_token : Number → TokenKind
 number_token number =
     if not number.negative && number.scale == 0 then kind.Digits number.digits
     else kind.Decimal number
 
+-- tokens as they are printed, without their lines
 abbrev pub Tokens : Type 0
 Tokens = List TokenKind
 
--- one behind the other
+-- one after the other
 abbrev pub joined : List Tokens → Tokens
 joined [] = []
 joined (part ∷ parts) = part ++ joined parts
@@ -42,12 +45,14 @@ joined (part ∷ parts) = part ++ joined parts
 abbrev pub opened_by : (asked : Bool) → Tokens
 opened_by asked = if asked then kind.Mark left_parenthesis ∷ [] else []
 
+-- its end, where one is asked for
 abbrev pub closed_by : (asked : Bool) → Tokens
 closed_by asked = if asked then kind.Mark right_parenthesis ∷ [] else []
 
+-- these tokens in parentheses
 abbrev pub in_parentheses : Tokens → Tokens
 in_parentheses tokens = kind.Mark left_parenthesis ∷ tokens ++ kind.Mark right_parenthesis ∷ []
 
--- in parentheses where it stands within another part
+-- in parentheses where it is within another part
 abbrev pub enclosed : (within : Bool) → Tokens → Tokens
 enclosed within tokens = opened_by within ++ tokens ++ closed_by within

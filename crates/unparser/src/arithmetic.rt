@@ -21,6 +21,7 @@ impl Tokens {
         }
     }
 
+    /// Adds targets, with ROUNDED where they have it.
     pub fn targets(&mut self, program: &Program, targets: &[Target]) -> Result<(), NoMemory>
         ensures { OnOk result (self.new ≡ self.old ++ targets_tokens program.now targets.now) }
     {
@@ -30,7 +31,7 @@ impl Tokens {
         Ok(())
     }
 
-    /// Adds what stands before the targets.
+    /// Adds what comes before the targets.
     pub fn calc_front(&mut self, program: &Program, calc: &Calc) -> Result<(), NoMemory>
         ensures { OnOk result (self.new ≡ self.old ++ calc_front program.now calc.now) }
     {
@@ -93,7 +94,7 @@ impl Tokens {
         }
     }
 
-    /// Adds what stands behind the targets: of COMPUTE its expression.
+    /// Adds what comes after the targets: the expression of COMPUTE.
     pub fn calc_back(&mut self, program: &Program, calc: &Calc) -> Result<(), NoMemory>
         ensures { OnOk result (self.new ≡ self.old ++ calc_back program.now calc.now) }
     {

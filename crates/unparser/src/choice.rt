@@ -8,6 +8,7 @@ use cob_base::NoMemory;
 use cob_tree::{Expr, Program, Subject, Test};
 
 impl Tokens {
+    /// Adds the subject of EVALUATE.
     pub fn subject(&mut self, program: &Program, subject: &Subject) -> Result<(), NoMemory>
         ensures { OnOk result (self.new ≡ self.old ++ subject_tokens program.now subject.now) }
     {

@@ -26,7 +26,7 @@ impl Tokens {
         }
     }
 
-    /// Adds NOT where it is said.
+    /// Adds NOT, where `said` is true.
     pub fn not(&mut self, said: bool) -> Result<(), NoMemory>
         ensures { OnOk result (self.new ≡ self.old ++ not_tokens said) }
     {
@@ -52,7 +52,7 @@ impl Tokens {
         }
     }
 
-    /// Adds a condition, which stands under AND or OR or not.
+    /// Adds a condition; `within` says that it is an operand of AND, OR or NOT.
     #[cycle(cond)]
     pub fn cond(&mut self, program: &Program, cond: &Cond, within: bool) -> Result<(), NoMemory>
         ensures { OnOk result (self.new ≡ self.old ++ cond_tokens program.now cond.now within) }

@@ -26,6 +26,7 @@ impl Tokens {
         self.cond(program, cond, false)
     }
 
+    /// Adds the control of a PERFORM.
     pub fn control(&mut self, program: &Program, control: &Control) -> Result<(), NoMemory>
         ensures { OnOk result (self.new ≡ self.old ++ control_tokens program.now control.now) }
     {

@@ -51,6 +51,7 @@ impl Tokens {
         }
     }
 
+    /// Adds the names of files.
     pub fn files(&mut self, program: &Program, numbers: &[u32]) -> Result<(), NoMemory>
         ensures { OnOk result (self.new ≡ self.old ++ files_tokens program.now numbers.now) }
     {
@@ -89,6 +90,7 @@ impl Tokens {
         }
     }
 
+    /// Adds the labels of paragraphs.
     pub fn labels(&mut self, program: &Program, numbers: &[u32]) -> Result<(), NoMemory>
         ensures { OnOk result (self.new ≡ self.old ++ labels_tokens program.now numbers.now) }
     {

@@ -1,4 +1,4 @@
-//! The first line of a statement.
+//! The first lines of statements, as tokens.
 
 ghost use Rattle.std.specs.Prelude.{◌≡◌, ◌++◌, false, OnOk};
 ghost use Rattle.cob_tree.specs.declared.stmt.Stmt.{out-Stmt};

@@ -1,8 +1,9 @@
-//! The parts of a program as the tokens that they are printed with.
+//! The parts of a program as the tokens with which they are printed.
 //!
-//! A module has a kind of part, of the name that its definitions have in `specs`: places, operands
-//! and expressions in `place`, conditions in `condition`, and so on up to `head`, the first line
-//! of a statement. Hold them against ISO 1989:1985, the formats of the PROCEDURE DIVISION.
+//! Each module has one kind of part, under the name that its definitions have in `specs`: places,
+//! operands and expressions in `place`, conditions in `condition`, and so on up to `head`, the
+//! first line of a statement. The definitions are to be compared with ISO 1989:1985, the formats of
+//! the PROCEDURE DIVISION.
 #![tactic(auto)]
 
 mod arithmetic;

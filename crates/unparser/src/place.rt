@@ -20,6 +20,7 @@ fn op_mark(op: Op) -> u8
 }
 
 impl Tokens {
+    /// Adds the name of the item with this number.
     pub fn item(&mut self, program: &Program, number: u32) -> Result<(), NoMemory>
         ensures { OnOk result
             (self.new ≡ self.old ++ kind.Word (item_name program.now number) ∷ []) }
@@ -125,6 +126,7 @@ impl Tokens {
         self.mark(b')')
     }
 
+    /// Adds an operand.
     #[cycle(place)]
     pub fn operand(&mut self, program: &Program, operand: &Operand) -> Result<(), NoMemory>
         ensures { OnOk result (self.new ≡ self.old ++ operand_tokens program.now operand.now) }
@@ -137,7 +139,7 @@ impl Tokens {
         }
     }
 
-    /// Adds an expression, which stands within another one or not.
+    /// Adds an expression; `within` says that it is an operand of another one.
     #[cycle(place)]
     pub fn expr(&mut self, program: &Program, expr: &Expr, within: bool) -> Result<(), NoMemory>
         ensures { OnOk result (self.new ≡ self.old ++ expr_tokens program.now expr.now within) }
@@ -167,6 +169,7 @@ impl Tokens {
         self.expr(program, side.get(), true)
     }
 
+    /// Adds operands.
     pub fn operands(&mut self, program: &Program, operands: &[Operand]) -> Result<(), NoMemory>
         ensures { OnOk result
             (self.new ≡ self.old ++ operands_tokens program.now operands.now) }

@@ -1,4 +1,4 @@
-//! Tokens, one behind the other.
+//! Lists of tokens.
 
 ghost use Rattle.std.specs.Prelude.{◌≡◌, ◌++◌, [], ◌∷◌, true, OnOk};
 ghost use Rattle.std.specs.List.{list_all};
@@ -51,6 +51,7 @@ fn are_digits(bytes: &[u8]) -> bool
 }
 
 impl Tokens {
+    /// No tokens.
     pub fn new(alloc: Global) -> Tokens
         ensures { result ≡ [] }
     {
@@ -60,6 +61,7 @@ impl Tokens {
         }
     }
 
+    /// The list of the tokens.
     pub fn into_items(self) -> Items<TokenKind>
         ensures { result ≡ self }
     {
@@ -67,6 +69,7 @@ impl Tokens {
         list
     }
 
+    /// Adds a token.
     pub fn push(&mut self, token: TokenKind) -> Result<(), NoMemory>
         ensures { OnOk result (self.new ≡ self.old ++ token ∷ []) }
     {
@@ -92,6 +95,7 @@ impl Tokens {
         self.word(second)
     }
 
+    /// Adds a name.
     pub fn name(&mut self, name: Word) -> Result<(), NoMemory>
         ensures { OnOk result (self.new ≡ self.old ++ kind.Word name ∷ []) }
     {
@@ -108,12 +112,14 @@ impl Tokens {
         self.digits(name.as_slice())
     }
 
+    /// Adds a mark.
     pub fn mark(&mut self, mark: u8) -> Result<(), NoMemory>
         ensures { OnOk result (self.new ≡ self.old ++ kind.Mark mark ∷ []) }
     {
         self.push(TokenKind::Mark(mark))
     }
 
+    /// Adds digits.
     pub fn digits(&mut self, digits: &[u8]) -> Result<(), NoMemory>
         ensures { OnOk result (self.new ≡ self.old ++ kind.Digits digits.now ∷ []) }
     {
@@ -122,6 +128,7 @@ impl Tokens {
         self.push(TokenKind::Digits(copy))
     }
 
+    /// Adds a literal.
     pub fn literal(&mut self, bytes: &Text) -> Result<(), NoMemory>
         ensures { OnOk result (self.new ≡ self.old ++ kind.Literal bytes.now ∷ []) }
     {
@@ -140,13 +147,14 @@ impl Tokens {
         self.push(TokenKind::Decimal(Boxed::new(self.alloc, number)?))
     }
 
-    /// Adds a parenthesis where one is asked for.
+    /// Adds an opening parenthesis, where `asked` is true.
     pub fn opens(&mut self, asked: bool) -> Result<(), NoMemory>
         ensures { OnOk result (self.new ≡ self.old ++ opened_by asked) }
     {
         if asked { self.mark(b'(') } else { Ok(()) }
     }
 
+    /// Adds a closing parenthesis, where `asked` is true.
     pub fn closes(&mut self, asked: bool) -> Result<(), NoMemory>
         ensures { OnOk result (self.new ≡ self.old ++ closed_by asked) }
     {

@@ -9,17 +9,20 @@ use Rattle.control_flow_theory.specs.main_theorem.Numbering.{place_among, counts
 
 -- the cell that is asked for whether it is above zero
 
+-- the cell of a test
 abbrev pub tested_cell : Test → Option ℕ
 tested_cell (Holds cond) = None
 tested_cell (Not test) = None
 tested_cell (Is cell value) = None
 tested_cell (Above cell) = Some cell
 
+-- the cell of a choice; one by the cell's value doesn't ask so
 abbrev pub picked_cell : Picker → Option ℕ
 picked_cell (If test) = tested_cell test
 picked_cell (By chooser) = None
 picked_cell (ByCell cell) = None
 
+-- the cell of the choice at an end
 abbrev pub ended_cell : End → Option ℕ
 ended_cell (Pick picker arms) = picked_cell picker
 ended_cell (Jump to) = None
@@ -41,10 +44,11 @@ if_above least (Some cell) = if nat_le least cell then Some cell else None
 abbrev pub head_cell : Node → Option ℕ
 head_cell node = if_head node.label (ended_cell (end_of node.tree))
 
+-- the counter of the loop whose head the node is, where it isn't below this number
 abbrev pub counter_at : ℕ → Node → Option ℕ
 counter_at least node = if_above least (head_cell node)
 
--- the counters of the loops whose heads these nodes are, without those that don't rise
+-- the rising counters, from this one on, of the loops whose heads these nodes are
 abbrev pub counters_from : ℕ → List Node → List ℕ
 counters_from least [] = []
 counters_from least (node ∷ nodes) = elim (counter_at least node) [
@@ -52,6 +56,7 @@ counters_from least (node ∷ nodes) = elim (counter_at least node) [
   | Some cell ↦ cell ∷ counters_from (cell + 1) nodes
 ]
 
+-- the counters of the loops whose heads these nodes are
 abbrev pub counters_in : List Node → List ℕ
 counters_in nodes = counters_from 0 nodes
 

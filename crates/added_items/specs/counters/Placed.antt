@@ -13,6 +13,7 @@ use Rattle.control_flow_theory.specs.lowering.WellFormed.{IsRangeOf, AreJustReac
 use Rattle.control_flow_theory.specs.main_theorem.Chain.{lowered_graphs}
 use Rattle.control_flow_theory.specs.main_theorem.Numbering.{numbers_by, added_by}
 
+-- a node of lowering as one that the rules reduce
 abbrev pub placed_node : lower.Node → Node
 placed_node one = record { label = one.key; tree = one.tree }
 

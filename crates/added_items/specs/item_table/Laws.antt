@@ -13,8 +13,8 @@ use Rattle.added_items.specs.item_table.Naming.{entries_for}
 use Rattle.added_items.specs.item_table.Row.{CellRange}
 use Rattle.added_items.specs.item_table.Tables.{most_arms, table_of_cells}
 
--- whatever the words, each cell that stands has one of the entries, with room for its values, and
--- each that changes shares it with no other
+-- each cell that has an item has one of the entries, with room for its values, and each that
+-- changes shares it with no other, whatever the words
 abbrev pub CellsHaveEntries : Type 0
 CellsHaveEntries =
     (words : List (List ℕ)) (ranges : List CellRange) →
@@ -25,12 +25,12 @@ abbrev pub cell_range : Range → Graph → CellRange
 cell_range range graph =
     record { range = range; added = graph.added; body = (procedure_of range graph).body }
 
--- of the closed graphs of these ranges
+-- these ranges, with the cells of their closed graphs
 abbrev pub closed_ranges : List Range → Graphs → List CellRange
 closed_ranges order graphs = map (λ range. cell_range range (closed_graph (graphs range))) order
 
--- so what the rules write of each cell may be written, where no graph has as many nodes as a state
--- has numbers
+-- what the rules write of each cell may be written, where no graph has as many nodes as a state has
+-- numbers
 abbrev pub ClosedCellsAreServed : Type 0
 ClosedCellsAreServed =
     (declared : Declared) (added : AddedItems) (order : List Range) (graphs : Graphs) →

@@ -10,6 +10,7 @@ use Rattle.added_items.specs.item_table.Row.{CellRange}
 use Rattle.added_items.specs.declared.item_table.naming.AddedItem.{AddedItem}
 use Rattle.added_items.specs.declared.item_table.naming.NextNumbers.{NextNumbers}
 
+-- the stem of the names of items of this kind
 abbrev pub stem_of : Added → List ℕ
 stem_of Never = codes "RX-NEVER-"
 stem_of Flag = codes "RX-FLAG-"
@@ -17,7 +18,7 @@ stem_of Count = codes "RX-COUNT-"
 stem_of State = codes "RX-STATE-"
 stem_of Exit = codes "RX-EXIT-"
 
--- a count has a sign, for what is left of a TIMES
+-- how many digits an item of this kind has
 abbrev pub digits_of : Added → ℕ
 digits_of Never = 1
 digits_of Flag = 1
@@ -25,6 +26,7 @@ digits_of Count = 18
 digits_of State = 6
 digits_of Exit = 6
 
+-- whether items of this kind have a sign
 abbrev pub is_signed : Added → Bool
 is_signed Never = false
 is_signed Flag = false
@@ -40,6 +42,7 @@ next_of next Count = next.count
 next_of next State = next.state
 next_of next Exit = next.exit
 
+-- the numbers, with this one to be tried next for the kind
 abbrev pub with_next : NextNumbers → Added → ℕ → NextNumbers
 with_next next Never number = record next { never = number }
 with_next next Flag number = record next { flag = number }
@@ -47,9 +50,11 @@ with_next next Count number = record next { count = number }
 with_next next State number = record next { state = number }
 with_next next Exit number = record next { exit = number }
 
+-- the numbers from which names are looked for at first
 abbrev pub all_from_one : NextNumbers
 all_from_one = record { never = 1; flag = 1; count = 1; state = 1; exit = 1 }
 
+-- the item of this name and kind
 abbrev pub entry_named : (name : List ℕ) → Added → CellEntry
 entry_named name kind =
     record { name = name; digits = digits_of kind; signed = is_signed kind }
@@ -66,6 +71,7 @@ entries_from words next (kind ∷ kinds) =
 abbrev pub entries_for : List (List ℕ) → List CellRange → List CellEntry
 entries_for words ranges = entries_from words all_from_one (item_kinds ranges)
 
+-- an added item, with its name and kind
 abbrev pub seen_item : AddedItem → CellEntry
 seen_item item = entry_named item.name (seen_added item.kind)
 

@@ -10,8 +10,11 @@ use Rattle.added_items.specs.declared.item_table.numbering.CellNumbering.{CellNu
 -- its parts fit each other
 pub record IsWhole (numbering : CellNumbering) : Type 0 where
   pub few : length numbering.kinds < 2 ^ 32
+  -- the first cell that never changes
   pub never : numbering.never ≡ first_constant_cell (map seen_added numbering.kinds)
+  -- there is a number for each cell
   pub size : length numbering.holding.numbers.items ≡ length numbering.kinds
+  -- each number leads to its cell
   pub held : AreHeld numbering.holding.held numbering.holding.numbers.items
 
 -- the number of the item of the cell at this place
@@ -21,6 +24,9 @@ number_at numbering place =
 
 -- it is that of these ranges
 pub record IsNumbering (ranges : List CellRange) (numbering : CellNumbering) : Type 0 where
+  -- its parts fit each other
   pub whole : IsWhole numbering
+  -- it is of the cells of these ranges
   pub row : map seen_added numbering.kinds ≡ kinds_of_row ranges
+  -- the items come in this order
   pub held : numbering.holding.held ≡ holders_of ranges

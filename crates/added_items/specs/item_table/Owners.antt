@@ -4,6 +4,7 @@ use Rattle.control_flow_theory.specs.graph_rules.Families.{Added, Never, Flag, C
 use Rattle.control_flow_theory.specs.graph_rules.Reduced.{kind_at}
 use Rattle.added_items.specs.item_table.Row.{CellRange, kinds_of_row, named_behind}
 
+-- the cell never changes
 abbrev pub is_never : Added → Bool
 is_never Never = true
 is_never Flag = false
@@ -11,11 +12,12 @@ is_never Count = false
 is_never State = false
 is_never Exit = false
 
--- what the cell at this place is for; past the last one, never
+-- what a cell is for; past the last one, a cell that never changes
 abbrev pub or_never : Option Added → Added
 or_never None = Never
 or_never (Some kind) = kind
 
+-- what the cell at this place is for
 abbrev pub kind_in : List Added → ℕ → Added
 kind_in kinds place = or_never (kind_at kinds place)
 
@@ -28,21 +30,23 @@ first_constant_cell (kind ∷ kinds) = if is_never kind then 0 else suc (first_c
 abbrev pub owner_of : List Added → ℕ → ℕ
 owner_of kinds place = if is_never (kind_in kinds place) then first_constant_cell kinds else place
 
+-- one place further on, if there is one
 abbrev pub further : Option ℕ → Option ℕ
 further None = None
 further (Some place) = Some (suc place)
 
--- where the number stands in the list, from 0
+-- where the number is in the list, from 0
 abbrev pub place_in : List ℕ → ℕ → Option ℕ
 place_in [] number = None
 place_in (first ∷ others) number =
     if first == number then Some 0 else further (place_in others number)
 
--- each number once, behind those that are there
+-- each number once, after those that are there
 abbrev pub with_number : List ℕ → ℕ → List ℕ
 with_number numbers number =
     if is_some (place_in numbers number) then numbers else numbers ++ number ∷ []
 
+-- each number of the second list once, after those of the first
 abbrev pub each_once : List ℕ → List ℕ → List ℕ
 each_once numbers [] = numbers
 each_once numbers (number ∷ others) = each_once (with_number numbers number) others
@@ -53,7 +57,7 @@ counted_on from zero = []
 counted_on from (suc more) = from ∷ counted_on (suc from) more
 
 -- the cells that have items of their own, in the order of the items; those that no statement names
--- come behind all that are named
+-- come after all that are named
 abbrev pub holders_of : List CellRange → List ℕ
 holders_of ranges =
     let kinds = kinds_of_row ranges in

@@ -7,6 +7,7 @@ use Rattle.added_items.specs.mentions.CellUse.{cells_named}
 -- a range that was shaped: what its cells are for, and its body
 pub record CellRange : Type 0 where
   pub range : Range
+  -- what each cell is for
   pub added : List Added
   pub body : Stmts
 
@@ -15,7 +16,7 @@ abbrev pub of_range : List CellRange → Range → CellRange
 of_range [] range = record { range = range; added = []; body = none }
 of_range (one ∷ others) range = if same_range one.range range then one else of_range others range
 
--- how many cells stand before the range's own
+-- how many cells come before the range's own
 abbrev pub cells_before : List CellRange → Range → ℕ
 cells_before [] range = 0
 cells_before (one ∷ others) range =
@@ -26,14 +27,14 @@ abbrev pub kinds_of_row : List CellRange → List Added
 kinds_of_row [] = []
 kinds_of_row (one ∷ others) = one.added ++ kinds_of_row others
 
--- those of so many cells behind so many, in the order in which they are named
+-- those of so many cells after so many, in the order in which they are named
 abbrev pub in_row : (before count : ℕ) → List ℕ → List ℕ
 in_row before count [] = []
 in_row before count (cell ∷ cells) =
     if nat_lt cell count then (before + cell) ∷ in_row before count cells
     else in_row before count cells
 
--- the places in the row that the bodies name, in the order of the text, behind so many cells
+-- the places in the row that the bodies name, in the order of the text, after so many cells
 abbrev pub named_behind : ℕ → List CellRange → List ℕ
 named_behind before [] = []
 named_behind before (one ∷ others) =

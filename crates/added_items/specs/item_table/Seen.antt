@@ -8,6 +8,7 @@ use Rattle.added_items.specs.declared.mentions.cell_use.CellUse.{CellUse}
 use Rattle.added_items.specs.item_table.Row.{CellRange}
 use Rattle.added_items.specs.declared.item_table.row.ShapedRange.{ShapedRange}
 
+-- a shaped range
 abbrev pub seen_cells : ShapedRange → CellRange
 seen_cells one = record {
   range = seen_range one.range;
@@ -15,9 +16,11 @@ seen_cells one = record {
   body = seen_body one.body.now.items;
 }
 
+-- shaped ranges
 abbrev pub seen_ranges : List ShapedRange → List CellRange
 seen_ranges ranges = map seen_cells ranges
 
+-- the cells that are named, as often as they are
 abbrev pub cells_of : List CellUse → List ℕ
 cells_of told = map (λ (mention : CellUse). mention.cell) told
 

@@ -9,15 +9,16 @@ use Rattle.added_items.specs.item_table.Owners.{is_never, owner_of, holders_of, 
 use Rattle.added_items.specs.item_table.Naming.{digits_of, is_signed}
 use Rattle.added_items.specs.item_table.Row.{CellRange, of_range, cells_before, kinds_of_row}
 
--- the largest number of six digits
+-- the most arms of a choice by a cell: the largest number of six digits
 abbrev pub most_arms : ℕ
 most_arms = 999999
 
+-- the number, or zero where there is none
 abbrev pub or_zero : Option ℕ → ℕ
 or_zero None = 0
 or_zero (Some number) = number
 
--- so many, or as many as have numbers
+-- this number of arms, or the most that there may be
 abbrev pub few_arms : Option ℕ → ℕ
 few_arms arms = min (or_zero arms) most_arms
 
@@ -29,7 +30,8 @@ most_by arms Count = 0
 most_by arms State = few_arms arms
 most_by arms Exit = few_arms arms
 
--- the choice by an exit leaves its last arm to WHEN OTHER; that by a state has a WHEN for each node
+-- the last arm of a choice by such a cell is WHEN OTHER: by an exit it is, and a choice by a state
+-- has a WHEN for each node
 abbrev pub ends_in_other : Added → Bool
 ends_in_other Never = false
 ends_in_other Flag = false
@@ -38,13 +40,15 @@ ends_in_other State = false
 ends_in_other Exit = true
 
 module _ (ranges : List CellRange) where
+  -- what a cell of a range is for
   abbrev pub kind_of : Range → ℕ → Added
   kind_of range cell = kind_in (of_range ranges range).added cell
 
-  -- the item's number, from 0, by the cell's place in the row
+  -- the number of a cell's item, from 0, by the cell's place in the row
   abbrev pub item_at : ℕ → ℕ
   item_at place = or_zero (place_in (holders_of ranges) (owner_of (kinds_of_row ranges) place))
 
+  -- the table of which item each cell has, and of what size
   abbrev pub table_of_cells : CellTable
   table_of_cells = record {
     stands = λ range cell. is_some (kind_at (of_range ranges range).added cell);

@@ -4,31 +4,35 @@ use Rattle.control_flow_theory.specs.language.Language.{Act, Own, Set, Take, Low
 use Rattle.control_flow_theory.specs.rendering.Rendering.{count_arms}
 use Rattle.added_items.specs.declared.mentions.cell_use.CellUse.{CellUse}
 
+-- the cell is named, and doesn't choose
 abbrev pub mention : ℕ → CellUse
 mention cell = record { cell = cell; arms = None }
 
+-- the cell is named, unless the statement is left out
 abbrev pub mention_unless : Bool → ℕ → List CellUse
 mention_unless silent cell = if silent then [] else mention cell ∷ []
 
--- MOVE, and SUBTRACT 1
+-- the cell that an act names: in a MOVE, or in SUBTRACT 1
 abbrev pub act_mentions : Act → List CellUse
 act_mentions (Own simple) = []
 act_mentions (Set cell value) = mention cell ∷ []
 act_mentions (Take cell amount) = mention cell ∷ []
 act_mentions (Lower cell) = mention cell ∷ []
 
+-- the cell that a test names
 abbrev pub test_mentions : Test → List CellUse
 test_mentions (Holds cond) = []
 test_mentions (Not test) = test_mentions test
 test_mentions (Is cell value) = mention cell ∷ []
 test_mentions (Above cell) = mention cell ∷ []
 
--- of so many arms
+-- the cell that a choice among so many arms is by
 abbrev pub picker_mentions : Picker → ℕ → List CellUse
 picker_mentions (If test) arms = test_mentions test
 picker_mentions (By chooser) arms = []
 picker_mentions (ByCell cell) arms = record { cell = cell; arms = Some arms } ∷ []
 
+-- the cells that the control of a loop names
 abbrev pub control_mentions : Control → List CellUse
 control_mentions (Times amount) = []
 control_mentions (Until after test) = test_mentions test
@@ -36,7 +40,8 @@ control_mentions (Varying after set step test) =
     act_mentions set ++ act_mentions step ++ test_mentions test
 
 abbrev mutual
-  -- what a choice is by, and then its arms; how a loop turns, and then its body
+  -- where a statement names cells: in what a choice is by, and then in its arms; in how a loop
+  -- turns, and then in its body
   pub stmt_mentions : Stmt → List CellUse
   stmt_mentions (Do act) = act_mentions act
   stmt_mentions (Choose picker arms) =
@@ -51,15 +56,18 @@ abbrev mutual
   stmt_mentions (ExitPerform cycle) = []
   stmt_mentions StopRun = []
 
+  -- where these statements name cells
   pub cell_uses : Stmts → List CellUse
   cell_uses none = []
   cell_uses (also stmt stmts) = stmt_mentions stmt ++ cell_uses stmts
 
+  -- where these arms name cells
   pub arms_mentions : Arms → List CellUse
   arms_mentions done = []
   arms_mentions (given arm others) = cell_uses arm ++ arms_mentions others
   arms_mentions (missing others) = arms_mentions others
 
+  -- where the body of a loop names cells
   pub body_mentions : Body → List CellUse
   body_mentions (Nested stmts) = cell_uses stmts
   body_mentions (Performed entry exit) = []

@@ -9,6 +9,7 @@ use Rattle.branch_tree.specs.Tree.{jump_within, return_within, stated}
 use Rattle.added_items.specs.mentions.CellUse.{cell_uses}
 use Rattle.added_items.specs.declared.mentions.cell_use.CellUse.{CellUse}
 
+-- the statements that an end is within a loop
 abbrev pub end_within : Leaves → End → Stmts
 end_within leaves end = stated_end none_left_out (jump_within leaves) (return_within leaves) end
 

@@ -6,7 +6,7 @@ ghost use Rattle.added_items.specs.counters.Counting.{Rises};
 
 use cob_base::NoMemory;
 
-/// The number behind all of these that the cell, which isn't there, has.
+/// The number, after all of these, of a cell that isn't there.
 fn number_behind(cells: &[u32], cell: u32) -> Result<u32, NoMemory>
     ensures { IfOk result (λ number. number ≡ length cells.now + cell) }
 {
@@ -19,8 +19,8 @@ fn number_behind(cells: &[u32], cell: u32) -> Result<u32, NoMemory>
     }
 }
 
-/// The place of the cell among the counters, or a number behind all of these. A number past those
-/// of its type is out of memory.
+/// The place of the cell among the counters, or a number after all of these. A number that needs
+/// more than 32 bits is out of memory.
 fn number_of(cells: &[u32], cell: u32) -> Result<u32, NoMemory>
     requires { Rises 0 cells.now }
     ensures { IfOk result (λ number. number ≡ place_among cells.now cell) }

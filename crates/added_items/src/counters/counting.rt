@@ -12,8 +12,8 @@ use cob_base::NoMemory;
 use program_facts::own_items::is_own_test;
 use std::alloc::Global;
 
-/// The cell that the test asks for whether it is above zero. Err where a condition of the program
-/// has a word on an added item.
+/// The cell of a test whether a cell is above zero; none for any other test. Err where a condition
+/// of the program has a word on an added item.
 fn tested_cell(test: &Test) -> Result<Option<u32>, NoMemory>
     ensures { IfOk result (λ cell. cell ≡ tested_cell (seen_test test.now)) }
 {
@@ -68,7 +68,7 @@ fn head_cell(node: &Node) -> Result<Option<u32>, NoMemory>
     }
 }
 
-/// The same, where it isn't below the number.
+/// The counter of the loop whose head the node is, where it isn't below the number.
 fn counter_at(node: &Node, least: u64) -> Result<Option<u32>, NoMemory>
     ensures { IfOk result (λ cell. cell ≡ counter_at least (seen_node node.now)) }
 {
@@ -84,7 +84,8 @@ fn counter_at(node: &Node, least: u64) -> Result<Option<u32>, NoMemory>
     }
 }
 
-/// The counters of the loops whose heads are among the nodes, without those that don't rise.
+/// The counters of the loops whose heads are among the nodes, in ascending order; one that isn't
+/// above those before it is left out.
 pub fn counters_in(alloc: Global, nodes: &[Node]) -> Result<Vec<u32>, NoMemory>
     ensures { IfOk result (λ cells. cells.items ≡ counters_in (seen_nodes nodes.now)) }
 {
@@ -102,7 +103,7 @@ pub fn counters_in(alloc: Global, nodes: &[Node]) -> Result<Vec<u32>, NoMemory>
     Ok(cells)
 }
 
-/// A count for each of them.
+/// An added item of kind Count for each cell.
 pub fn counts(alloc: Global, cells: &[u32]) -> Result<Vec<Added>, NoMemory>
     ensures { IfOk result (λ added. map seen_added added.items ≡ counts cells.now) }
 {

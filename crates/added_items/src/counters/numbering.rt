@@ -11,7 +11,7 @@ use branch_tree::Graph;
 use cob_base::NoMemory;
 use std::alloc::Global;
 
-/// Numbers the counters of the graph, whatever graph it is.
+/// Numbers the counters of any graph.
 fn number_graph(alloc: Global, graph: &mut Graph) -> Result<(), NoMemory>
     ensures { OnOk result (seen_graph graph.new ≡ numbered_graph (seen_graph graph.old)) }
 {
@@ -23,8 +23,8 @@ fn number_graph(alloc: Global, graph: &mut Graph) -> Result<(), NoMemory>
 }
 
 /// Numbers the counters of a graph's loops by TIMES from 0, in the order of their heads, and makes
-/// each an added item. Without memory the cells of some nodes are numbered. A cell whose number is
-/// past those of its type is out of memory, and so is a part of the program that has a word on an
+/// each an added item. Without memory the cells of some nodes are numbered. A cell whose number
+/// needs more than 32 bits is out of memory, and so is a part of the program that has a word on an
 /// added item.
 pub fn number_counters(alloc: Global, graph: &mut Graph) -> Result<(), NoMemory>
     ensures numbered { OnOk result (seen_graph graph.new

@@ -1,4 +1,4 @@
-//! Cells in what trees choose by, and in what leaves of a loop are.
+//! Cells in what trees choose by, and in what leaves of a loop do.
 
 ghost use Rattle.std.specs.Prelude.{◌≡◌, OnOk};
 ghost use Rattle.control_flow_theory.specs.lowering.Renamed.{test_anew, picker_anew};
@@ -32,7 +32,7 @@ pub fn number_test(test: &mut Test, cells: &[u32]) -> Result<(), NoMemory>
     }
 }
 
-/// Numbers the cell of what chooses.
+/// Numbers the cell of a picker.
 pub fn number_picker(by: &mut Picker, cells: &[u32]) -> Result<(), NoMemory>
     requires { Rises 0 cells.now }
     ensures { OnOk result (seen_picker by.new

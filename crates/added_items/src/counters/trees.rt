@@ -17,8 +17,8 @@ use program_facts::own_items::is_own_stmt;
 use std::alloc::Global;
 use std::mem;
 
-/// A statement of the program stays, however cells are numbered. Err where it has a word on an added
-/// item.
+/// Tests that a statement of the program names no cell, so that it stays however cells are
+/// numbered. Err where it has a word on an added item.
 fn own_piece(piece: &Piece) -> Result<(), NoMemory>
     ensures { OnOk result (NamesNoCell (seen_piece piece.now)) }
 {

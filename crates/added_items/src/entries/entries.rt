@@ -74,7 +74,7 @@ fn entry_of(alloc: Global, item: &AddedItem) -> Result<Entry, NoMemory>
     }
 }
 
-/// Puts the entries of added items behind others.
+/// Adds the entries of added items after others.
 pub fn add_entries(
     alloc: Global,
     entries: &mut Items<Entry>,

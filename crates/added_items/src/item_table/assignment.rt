@@ -17,6 +17,7 @@ pub struct ItemAssignment {
     pub numbers: Vec<Option<u32>>,
 }
 
+/// Whether an added item of this kind never changes.
 pub fn is_never(kind: Added) -> bool
     ensures { result ≡ is_never (seen_added kind) }
 {
@@ -29,7 +30,7 @@ pub fn is_never(kind: Added) -> bool
     }
 }
 
-/// What the cell at this place is for; past the last one, never.
+/// What the cell at this place is for; past the last one Never.
 #[tactic(auto, using(crate::proofs::item_table_lemmas::RowLemmas::kind_read, crate::proofs::item_table_lemmas::RowLemmas::kind_past))]
 pub fn kind_in(kinds: &[Added], place: u32) -> Added
     ensures { seen_added result ≡ kind_in (map seen_added kinds.now) place }
@@ -55,7 +56,7 @@ pub fn first_constant_cell(kinds: &[Added]) -> usize
     first
 }
 
-/// The place of the cell whose item the cell at this place has.
+/// The place of the cell whose item the cell at this place uses.
 pub fn owner_of(kinds: &[Added], never: u32, place: u32) -> u32
     requires { never ≡ first_constant_cell (map seen_added kinds.now) }
     ensures { result ≡ owner_of (map seen_added kinds.now) place }
@@ -89,7 +90,7 @@ fn hold(holding: &mut ItemAssignment, place: u32) -> Result<(), NoMemory>
     }
 }
 
-/// Gives items to the cells at these places, in this order, each cell by its holder.
+/// Gives items to the cells at these places, in this order; a cell uses its owner's item.
 pub fn assign_items(
     alloc: Global,
     kinds: &[Added],

@@ -1,4 +1,4 @@
-//! What writing asks of the cells of a range.
+//! What writing needs to know of the cells of a range.
 
 ghost use Rattle.std.specs.Prelude.{◌≡◌, ◌+◌, ◌<◌, ◌≤◌, ◌^◌, length, map, IfOk};
 ghost use Rattle.branch_tree.specs.Graph.{seen_added};
@@ -20,7 +20,7 @@ use cob_base::{Items, NoMemory};
 use statement_builders::item_words::CellItem;
 use std::alloc::Global;
 
-/// So many arms, or as many as have a number in an item.
+/// The number of arms, or the largest number that an item can hold.
 fn few_arms(arms: Option<usize>) -> u32
     ensures { result ≡ few_arms arms }
 {
@@ -54,7 +54,7 @@ fn ends_in_other(kind: Added) -> bool
     }
 }
 
-/// The item with this number behind the program's own.
+/// The item with this number after the program's own.
 fn item_behind(first: u32, number: u32) -> Result<u32, NoMemory>
     ensures { IfOk result (λ item. (item ≡ first + number) × (item < 2 ^ 31)) }
 {
@@ -64,7 +64,7 @@ fn item_behind(first: u32, number: u32) -> Result<u32, NoMemory>
     Ok(first + number)
 }
 
-/// What writing asks of the cell at this place.
+/// What writing needs to know of the cell at this place.
 fn cell_item(
     numbering: &CellNumbering,
     first: u32,
@@ -85,7 +85,7 @@ fn cell_item(
     })
 }
 
-/// What writing asks of each cell of a range, of which so many stand before.
+/// What writing needs to know of each cell of a range, before whose cells there are so many.
 fn range_items(
     alloc: Global,
     numbering: &CellNumbering,
@@ -109,7 +109,7 @@ fn range_items(
     Ok(items)
 }
 
-/// What writing asks of the cells of each range.
+/// What writing needs to know of the cells of each range.
 pub fn all_items(
     alloc: Global,
     numbering: &CellNumbering,

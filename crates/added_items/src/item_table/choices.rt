@@ -7,7 +7,7 @@ use crate::mentions::CellUse;
 use cob_base::NoMemory;
 use std::alloc::Global;
 
-/// Puts down that a choice stands there, before all that were put down.
+/// Notes the choice of this use, in place of one that was noted before.
 fn put_first(arms: &mut Vec<Option<usize>>, mention: &CellUse)
     ensures size { length arms.new.items ≡ length arms.old.items }
     ensures value { IsPut arms.old.items mention.now arms.new.items }

@@ -15,16 +15,17 @@ use cob_words::WordTable;
 use statement_builders::item_words::CellItem;
 use std::alloc::Global;
 
-/// The items of cells, and what writing asks of the cells of each range.
+/// The items of cells, and what writing needs to know of the cells of each range.
 #[derive(Drop)]
 pub struct AssignedItems {
     pub added: Items<AddedItem>,
     pub cells: Items<Items<CellItem>>,
 }
 
-/// Gives items to the cells of these ranges, which stand in this order: their names are no words of
-/// the table, and their numbers go on from `first`. Err where memory, numbers of 32 bits or items
-/// below 2^31 are wanted, and where a statement of the program has a word on an added item.
+/// Gives items to the cells of these ranges, which are in this order: their names aren't words of
+/// the table, and their numbers go on from `first`. Err where memory runs out, where 32 bits don't
+/// suffice to number the cells, where an item would be 2^31 or more, and where a statement of the
+/// program has a word on an added item.
 pub fn give_items(
     alloc: Global,
     words: &WordTable,

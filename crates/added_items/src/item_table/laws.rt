@@ -8,7 +8,7 @@ pub fn cells_have_entries()
     ensures { CellsHaveEntries }
 {}
 
-/// What the rules write of the cells of closed graphs may be written with their table, where each
+/// What the rules do with the cells of closed graphs can be written with their table, where each
 /// graph has fewer than 999,999 nodes.
 pub fn closed_cells_are_served()
     ensures { ClosedCellsAreServed }

@@ -22,7 +22,7 @@ pub struct AddedItem {
     pub kind: Added,
 }
 
-/// For each kind the number from which the next one is looked for.
+/// For each kind the number from which the next name is searched for.
 #[derive(Clone, Copy)]
 pub struct NextNumbers {
     pub never: u32,
@@ -117,7 +117,7 @@ fn next_item(
     })
 }
 
-/// The items of the cells at these places. Err where memory or numbers are wanted.
+/// The items of the cells at these places. Err where memory or numbers run out.
 pub fn items_at(
     alloc: Global,
     words: &WordTable,

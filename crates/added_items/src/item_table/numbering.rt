@@ -1,4 +1,4 @@
-//! The numbers of items, by the places of cells in the row.
+//! The numbers of items, by the places of cells in the row of all cells.
 
 ghost use Rattle.std.specs.Prelude.{◌≡◌, ◌<◌, length, IfOk};
 ghost use Rattle.added_items.specs.item_table.Numbering.{IsWhole, IsNumbering, number_at};

@@ -56,7 +56,8 @@ pub fn cell_uses_of(
     Ok(told)
 }
 
-/// Adds the places of those of so many cells behind so many that are named.
+/// Adds the places of the cells that are named, among `count` cells that come after `before`
+/// others.
 fn add_named(
     named: &mut Items<u32>,
     before: usize,

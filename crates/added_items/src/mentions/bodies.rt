@@ -1,4 +1,4 @@
-//! Bodies and trees, by their pieces.
+//! The cells that bodies and trees name, by their pieces.
 
 ghost use Rattle.std.specs.Prelude.{◌≡◌, ◌++◌, [], OnOk};
 ghost use Rattle.cob_base.specs.Answers.{Makes};
@@ -16,7 +16,7 @@ use program_facts::own_items::is_own_stmt;
 use std::alloc::Global;
 use std::collections::VecDeque;
 
-/// The program's own statement names no cell.
+/// Tests that a statement of the program names no cell.
 #[tactic(auto, using(crate::proofs::mentions_lemmas::MentionRows::own_none))]
 fn own_names_none(stmt: &Stmt) -> Result<(), NoMemory>
     ensures { OnOk result (stmt_mentions (seen 0 stmt.now) ≡ []) }
@@ -66,7 +66,7 @@ fn add_body(made: &mut Items<CellUse>, body: &VecDeque<Piece>) -> Result<(), NoM
     Ok(())
 }
 
-/// Adds what the arms of a choice name that is a statement.
+/// Adds what the arms of a choice that is a statement name.
 #[cycle(add)]
 fn add_arms(made: &mut Items<CellUse>, arms: &[Tree]) -> Result<(), NoMemory>
     ensures { OnOk result
@@ -126,7 +126,7 @@ fn add_within(made: &mut Items<CellUse>, leaves: &Leaves, arms: &[Tree]) -> Resu
     Ok(())
 }
 
-/// Where the body names cells, in the order of its text. Err where memory is wanted, and where a
+/// Where the body names cells, in the order of its text. Err where memory runs out, and where a
 /// statement of the program has a word on an added item.
 pub fn cell_uses(alloc: Global, body: &VecDeque<Piece>) -> Result<Items<CellUse>, NoMemory>
     ensures { Makes (cell_uses (seen_body body.now.items)) result }

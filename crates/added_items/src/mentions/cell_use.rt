@@ -9,13 +9,14 @@ use branch_tree::{Label, Leaves, Picker, Test};
 use cob_base::{Items, NoMemory};
 use program_facts::own_items::is_own_test;
 
-/// A cell where it is named; where a choice is by it, with how many arms the choice has.
+/// A use of a cell; where a choice is by the cell, with how many arms the choice has.
 #[derive(Clone, Copy)]
 pub struct CellUse {
     pub cell: u32,
     pub arms: Option<usize>,
 }
 
+/// A use of a cell that isn't a choice.
 pub fn named(cell: u32) -> CellUse
     ensures { result ≡ mention cell }
 {
@@ -40,7 +41,7 @@ pub fn add_test(made: &mut Items<CellUse>, test: &Test) -> Result<(), NoMemory>
     }
 }
 
-/// Adds the cell that a choice of so many arms is by, or that its test names.
+/// Adds the cell by which a choice of so many arms chooses, or that its test names.
 #[tactic(auto, using(crate::proofs::mentions_lemmas::MentionRows::nothing_added))]
 pub fn add_picker(made: &mut Items<CellUse>, by: &Picker, arms: usize) -> Result<(), NoMemory>
     ensures { OnOk result (made.new ≡ made.old ++ picker_mentions (seen_picker by.now) arms) }

@@ -17,8 +17,8 @@ use statement_builders::item_words::BothArms;
 use std::alloc::Global;
 use std::mem;
 
-/// The statement as it is written. Err where memory is wanted, where a range has no place, and
-/// where it has a word on an added item.
+/// The statement as it is written. Err where memory runs out, where a range has no place, and where
+/// it has a word on an added item.
 #[cycle(write)]
 pub fn write_stmt(alloc: Global, stmt: Stmt, places: &[ProcedurePlace]) -> Result<Stmt, NoMemory>
     ensures { IfOk result (λ made. IsWritten places.now stmt made) }
@@ -121,7 +121,7 @@ fn write_arm(
     }
 }
 
-/// What is written of the WHENs, and what WHEN OTHER holds.
+/// What is written for the WHENs, and what WHEN OTHER holds.
 #[derive(Drop)]
 pub struct Branches {
     pub whens: Items<When>,
@@ -237,7 +237,7 @@ fn write_bare(calc: Calc, into: Items<Target>) -> Result<Stmt, NoMemory>
     }
 }
 
-/// Puts what is written of the statement in its place.
+/// Replaces the statement by what is written for it.
 #[cycle(write)]
 fn write_in(alloc: Global, stmt: &mut Stmt, places: &[ProcedurePlace]) -> Result<(), NoMemory>
     ensures { OnOk result (IsWritten places.now stmt.old stmt.new) }
@@ -277,7 +277,7 @@ pub fn write_stmts(
     }
 }
 
-/// Puts what is written of the WHEN in its place.
+/// Replaces the WHEN by what is written for it.
 #[cycle(write)]
 fn write_when(alloc: Global, when: &mut When, places: &[ProcedurePlace]) -> Result<(), NoMemory>
     ensures { OnOk result (IsWhenWritten places.now when.old when.new) }
@@ -321,7 +321,7 @@ fn write_whens(
     }
 }
 
-/// What both hold, where both are there.
+/// What both arms hold, where neither is an error.
 fn pair_of(
     first: Result<Items<Stmt>, NoMemory>,
     second: Result<Items<Stmt>, NoMemory>,

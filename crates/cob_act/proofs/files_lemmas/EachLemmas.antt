@@ -11,7 +11,7 @@ use Rattle.cob_act.specs.declared.acting.ActOutcome.{ActOutcome}
 use Rattle.cob_act.specs.declared.acting.ActOutcome.TheVariants.{Went, Abended}
 use Rattle.file_model.specs.operations.Seen.{Seen}
 use Rattle.cob_act.specs.declared.files.fault.FileFault.{FileFault}
-use Rattle.cob_act.specs.files.Over.{BreaksIn, BrokeIn, Did, IsOver, world_behind}
+use Rattle.cob_act.specs.files.Over.{BreaksIn, BrokeIn, Did, IsOver, StopsAmong, world_behind}
 use Rattle.cob_act.proofs.files_lemmas.EffectLemmas.{WentOn, goes_on, last_after, stops}
 
 -- some operations were done, and these files are left
@@ -102,3 +102,9 @@ each_breaks does program whole world items store devices table fault left_now de
       (sym (ap (λ (e : Effect). world_behind (length so.operations) world e.operations) so.same ∙ ap (last_world world) (front so.operations (each_file does store (last_world world so.operations) items).operations)))
       broke,
 )
+
+-- the store is as those that were done left it
+pub stops_among : {A : Type 0} (does : Roots → World → A → Effect) (program : List FileEntry) (whole : Effect) (world : World) (items : List A) (at : ℕ) (store store_now : Roots) (devices : List Seen) (table : List FileRow) →
+    Begun does program whole world (drop at items) store devices table → store_now ≡ store → StopsAmong does whole world items store_now
+stops_among does program whole world items at store store_now devices table so same =
+    (at, so.operations, subst (λ (s : Roots). whole ≡ after so.operations (each_file does s (last_world world so.operations) (drop at items))) (sym same) so.same)

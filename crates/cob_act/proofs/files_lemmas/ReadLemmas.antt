@@ -1,5 +1,5 @@
 -- READ, from its operation, its record and what follows its status.
-use Rattle.std.proofs.Common.{◌≡◌, ◌∙◌, sym, subst, ℕ, ◌==◌, ◌-◌, Bool, true, false, ◌&&◌, List, [], ◌∷◌, ◌++◌, length, take, replicate, Option, Result, slice_get, Ok, Err, refl, ap, if◌then◌else◌, arith, eqb-true, ◌≤◌}
+use Rattle.std.proofs.Common.{◌≡◌, ◌∙◌, sym, subst, ℕ, ◌==◌, ◌-◌, Bool, true, false, ◌&&◌, List, [], ◌∷◌, ◌++◌, length, take, replicate, Option, None, Result, slice_get, Ok, Err, refl, ap, if◌then◌else◌, arith, eqb-true, ◌≤◌}
 use Rattle.std.proofs.lemmas.List.{append-nil, take_all}
 use Rattle.cob_tree.specs.declared.ending.Abend.{Abend}
 use Rattle.cob_tree.specs.declared.file.FileEntry.{FileEntry}
@@ -147,3 +147,19 @@ record_came_first declared program file place at_end arms before mid between att
           ∙ behind_none attempt.world behind.operations))
           (over_left program left devices table attempt.world tries.1),
     )
+
+-- without INTO the store is as the status left it
+no_more : (b : Bool) (declared : Declared) (file : ℕ) (arms : Bool) (operations : List Operation) (store : Roots) → (after operations (if b then came declared file None arms store else none_came arms store)).store ≡ store
+no_more true declared file arms operations store = refl
+no_more false declared file arms operations store = refl
+
+pub stands_without_into : (declared : Declared) (program : List FileEntry) (file : ℕ) (at_end arms : Bool) (before mid between now : Roots) (attempt : Attempt) (item : Option Spot) (status : ℕ) (first : ActOutcome) (world : World) (devices : List Seen) (table : List FileRow) →
+    Ok item ≡ status_spot declared before (status_place declared file) → Tries program (Ok status) attempt devices table → mid ≡ record_put declared file before attempt → ended_as first ≡ ended_by (at_end && status == 10) item status → between ≡ with_status mid item status →
+    WentOn first → now ≡ between → now ≡ (read_by declared before file None at_end arms attempt).store
+stands_without_into declared program file at_end arms before mid between now attempt item status first world devices table is tries put ends same other kept =
+    let effect : Effect = settled_with declared file at_end before attempt item in
+    let did : Did program (Ok first) world effect between devices table = first_did declared program file at_end before mid between attempt item status first world devices table tries put ends same in
+    let whole : (read_by declared before file None at_end arms attempt).store ≡ effect.store =
+    ap (λ (e : Effect). e.store) (read_is declared file None at_end arms before attempt item is ∙ both_go (attempt.status == 0) first attempt.world effect (came declared file None arms) (none_came arms) other did.0)
+    ∙ no_more (attempt.status == 0) declared file arms effect.operations effect.store in
+    kept ∙ did.1 ∙ sym whole

@@ -29,7 +29,7 @@ answered tried.NoMemory = Err faults.NoMemory
 
 -- ---- the bench then
 
--- the names of the devices that failed: the one that stands right behind the bench, or none
+-- the names of the devices that failed: the one that comes right after the bench, or none
 abbrev pub gone_by : FileFault → ℕ → List Seen → List (List ℕ)
 gone_by faults.Device left devices = name_behind left devices ∷ []
 gone_by faults.NoMemory left devices = []

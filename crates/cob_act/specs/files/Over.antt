@@ -1,6 +1,6 @@
 -- What a statement on files makes of a world that stands over devices, where those that it may use
 -- tell their files.
-use Rattle.std.specs.Prelude.{ℕ, ◌≡◌, ◌<◌, ◌^◌, ◌==◌, Bool, if◌then◌else◌, List, [], length, take, Option, Result, Ok, Err, IfOk, slice_get}
+use Rattle.std.specs.Prelude.{ℕ, ◌≡◌, ◌⊎◌, ◌<◌, ◌^◌, ◌==◌, Bool, if◌then◌else◌, List, [], drop, length, take, Option, Result, Ok, Err, IfOk, slice_get}
 use Rattle.cob_tree.specs.declared.place.Place.{Place}
 use Rattle.cob_tree.specs.declared.file.FileEntry.{FileEntry}
 use Rattle.cob_store.specs.declared.spot.Spot.{Spot}
@@ -9,7 +9,7 @@ use Rattle.cob_store.specs.Store.{Roots}
 use Rattle.file_model.specs.declared.table.FileRow.{FileRow}
 use Rattle.file_model.specs.Attempts.{Attempt}
 use Rattle.file_model.specs.World.{World}
-use Rattle.meanings.specs.statements.Filing.{Chose, Declared, Effect, Operation, Went, entry_bytes, file_of, into, last_world, no_effect, status_place, status_spot}
+use Rattle.meanings.specs.statements.Filing.{Chose, Declared, Effect, Operation, Went, after, each_file, entry_bytes, file_of, into, last_world, no_effect, status_place, status_spot}
 use Rattle.meanings.specs.statements.Outcome.{Outcome}
 use Rattle.cob_act.specs.declared.acting.ActOutcome.{ActOutcome}
 use Rattle.file_model.specs.operations.Calls.{addresses_of}
@@ -24,8 +24,11 @@ use Rattle.cob_act.specs.declared.files.fault.FileFault.{FileFault}
 pub record IsOver (files : List FileEntry) (devices : List Seen) (table : List FileRow)
     (world : World) : Type 0 where
   pub rows : length table ≡ length files
+  -- the program has few files
   pub few : length files < 2 ^ 32
+  -- each device that the program uses tells its files
   pub told : TellUsed (addresses_of files) devices
+  -- the files are over the devices as the world has them
   pub stands : Stands (addresses_of files) devices table world
 
 -- an operation has the status of the attempt, in its world
@@ -67,12 +70,29 @@ BreaksIn (Ok a) files world effect left devices table = Unit {0}
 BreaksIn (Err fault) files world effect left devices table = (some : ℕ)
     × BrokeIn fault files (world_behind some world effect.operations) left devices table
 
+-- ---- the store where it broke off
+
+-- so many were done: all that is meant is what they did, and then the same for the others, from
+-- this store
+abbrev pub StopsAmong : {A : Type 0} → (Roots → World → A → Effect) → Effect → World → List A →
+    Roots → Type 0
+StopsAmong does whole world items store = (done : ℕ) × (operations : List Operation)
+    × (whole ≡ after operations
+    (each_file does store (last_world world operations) (drop done items)))
+
+-- the store is as it was, or as FROM left it
+abbrev pub MovedFrom : Outcome (Unit {0}) → (old new : Roots) → Type 0
+MovedFrom from old new = (new ≡ old) ⊎ (new ≡ from.store)
+
 -- ---- parts that ask no device
 
 -- it ended so in a store, without an operation
 pub record EndsAs (done : ActOutcome) (store : Roots) (effect : Effect) : Type 0 where
+  -- it ended so
   pub end : ended_as done ≡ effect.end
+  -- the store is this one
   pub same : store ≡ effect.store
+  -- no operation was done
   pub none : effect.operations ≡ []
 
 -- what follows the status of a READ: INTO where a record came, and an arm where there are arms

@@ -1,13 +1,13 @@
-//! The statements.
+//! OPEN, CLOSE, READ, WRITE and REWRITE.
 
-ghost use Rattle.std.specs.Prelude.{◌≡◌, ◌≤◌, ◌==◌, ◌&&◌, IfOk, Ok, if◌then◌else◌, length, map, option_copied, slice_get, take, vec_len};
+ghost use Rattle.std.specs.Prelude.{◌≡◌, ◌⊎◌, ◌≤◌, ◌==◌, ◌&&◌, IfErr, IfOk, None, Ok, if◌then◌else◌, length, map, option_copied, slice_get, take, vec_len};
 ghost use Rattle.cob_store.specs.Store.{fitted, put_at};
 ghost use Rattle.file_model.specs.Attempts.{read_at};
 ghost use Rattle.file_model.specs.World.{World};
 ghost use Rattle.meanings.specs.statements.Does.{declared_with};
 ghost use Rattle.meanings.specs.statements.Filing.{Chose, Went, address_by, each_file, from_by, opened, read, rewritten, shut, written};
 ghost use Rattle.cob_act.specs.files.Ends.{DoneOver, ended_as};
-ghost use Rattle.cob_act.specs.files.Over.{BreaksIn, Did, EndsAs, IsOver, PutsOut, Stays, Tries, read_then};
+ghost use Rattle.cob_act.specs.files.Over.{BreaksIn, Did, EndsAs, IsOver, MovedFrom, PutsOut, Stays, StopsAmong, Tries, read_then};
 
 use crate::ActOutcome;
 use crate::files::desk::{close, open, read, rewrite, write};
@@ -46,6 +46,7 @@ fn opened(
         table.old.rows world →
         Stays result program.now.files world bench.new.left
         (map ⟦<Box<dyn Device> as Watched>⟧.seen bench.new.devices.items) table.new.rows }
+    ensures kept { IfErr result (λ fault. store.new ≡ store.old) }
 {
     match status_spot(program, areas, store, opening.file) {
         Err(abend) => Ok(ActOutcome::Abended(abend)),
@@ -56,7 +57,7 @@ fn opened(
     }
 }
 
-/// OPEN: each file in turn, up to one that ends the run.
+/// Does OPEN: each file in turn, up to one that ends the run.
 pub fn all_opened(
     program: &Program,
     areas: &Areas,
@@ -84,6 +85,14 @@ pub fn all_opened(
         (each_file (opened (declared_with program.now areas.now)) store.old world openings.now)
         bench.new.left
         (map ⟦<Box<dyn Device> as Watched>⟧.seen bench.new.devices.items) table.new.rows }
+
+    // the store is as those before the one that broke off left it
+    ensures kept { (world : World) → IsOver program.now.files
+        (take bench.old.left (map ⟦<Box<dyn Device> as Watched>⟧.seen bench.old.devices.items))
+        table.old.rows world → IfErr result (λ fault. StopsAmong
+        (opened (declared_with program.now areas.now))
+        (each_file (opened (declared_with program.now areas.now)) store.old world openings.now)
+        world openings.now store.new) }
 {
     for opening in openings {
         if let ActOutcome::Abended(abend) = opened(program, areas, store, bench, table, *opening)? {
@@ -119,6 +128,7 @@ fn shut(
         table.old.rows world →
         Stays result program.now.files world bench.new.left
         (map ⟦<Box<dyn Device> as Watched>⟧.seen bench.new.devices.items) table.new.rows }
+    ensures kept { IfErr result (λ fault. store.new ≡ store.old) }
 {
     match status_spot(program, areas, store, file) {
         Err(abend) => Ok(ActOutcome::Abended(abend)),
@@ -129,7 +139,7 @@ fn shut(
     }
 }
 
-/// CLOSE: each file in turn, up to one that ends the run.
+/// Does CLOSE: each file in turn, up to one that ends the run.
 pub fn all_shut(
     program: &Program,
     areas: &Areas,
@@ -157,6 +167,14 @@ pub fn all_shut(
         (each_file (shut (declared_with program.now areas.now)) store.old world files.now)
         bench.new.left
         (map ⟦<Box<dyn Device> as Watched>⟧.seen bench.new.devices.items) table.new.rows }
+
+    // the store is as those before the one that broke off left it
+    ensures kept { (world : World) → IsOver program.now.files
+        (take bench.old.left (map ⟦<Box<dyn Device> as Watched>⟧.seen bench.old.devices.items))
+        table.old.rows world → IfErr result (λ fault. StopsAmong
+        (shut (declared_with program.now areas.now))
+        (each_file (shut (declared_with program.now areas.now)) store.old world files.now)
+        world files.now store.new) }
 {
     for file in files {
         if let ActOutcome::Abended(abend) = shut(program, areas, store, bench, table, *file)? {
@@ -185,7 +203,7 @@ pub struct ReadRequest<'a> {
     pub arms: bool,
 }
 
-// The record is put before the status is.
+// Puts the record that came, before the status is put.
 fn record_put(store: &mut Store, spot: Spot, status: u8, bytes: &[u8])
     ensures { store.new ≡ (if status == 0
         then put_at store.old spot (fitted spot.length bytes.now) else store.old) }
@@ -214,9 +232,10 @@ fn read_end(
     reading: ReadRequest,
     status: u8,
 ) -> Result<ActOutcome, NoMemory>
-    ensures { IfOk result (λ done. EndsAs done store.new
+    ensures does { IfOk result (λ done. EndsAs done store.new
         (read_then (declared_with program.now areas.now) reading.entry.file
         (option_copied reading.entry.into) reading.entry.arms status store.old)) }
+    ensures kept { IfErr result (λ e. store.new ≡ store.old) }
 {
     if status != 0 {
         return Ok(chosen(reading.arms, 1));
@@ -227,7 +246,7 @@ fn read_end(
     }
 }
 
-// The next record of a file, in `scratch`, which is made as long.
+// Reads the next record of a file into `scratch`, which gets the length of the record area.
 fn next_record(
     bench: &mut Bench,
     table: &mut FileTable,
@@ -262,14 +281,14 @@ fn next_record(
     Ok(status)
 }
 
-// AT END takes care of the end.
+// Whether AT END handles the status.
 fn is_cared(at_end: bool, status: u8) -> bool
     ensures { result ≡ (at_end && status == 10) }
 {
     at_end && status == 10
 }
 
-/// READ. It chooses arm 1 at the end, and 2 where a record came.
+/// Does READ. It chooses arm 1 at the end, and 2 where a record came.
 #[tactic(auto, using(crate::proofs::files_lemmas::BenchLemmas::done_listed, crate::proofs::files_lemmas::BenchLemmas::none_asked))]
 pub fn read_one(
     program: &Program,
@@ -301,6 +320,13 @@ pub fn read_one(
         (option_copied reading.entry.into) reading.entry.at_end reading.entry.arms)
         bench.new.left
         (map ⟦<Box<dyn Device> as Watched>⟧.seen bench.new.devices.items) table.new.rows }
+
+    // the store is as it was, or as without INTO
+    ensures kept { (world : World) → IsOver program.now.files
+        (take bench.old.left (map ⟦<Box<dyn Device> as Watched>⟧.seen bench.old.devices.items))
+        table.old.rows world → IfErr result (λ fault. (store.new ≡ store.old) ⊎ (store.new
+        ≡ (read (declared_with program.now areas.now) store.old world reading.entry.file
+        None reading.entry.at_end reading.entry.arms).store)) }
 {
     let item = match status_spot(program, areas, store, reading.file) {
         Err(abend) => return Ok(ActOutcome::Abended(abend)),
@@ -324,7 +350,7 @@ pub fn read_one(
     }
 }
 
-// FROM, then the record that is to be put out, in `scratch`.
+// FROM; then `scratch` gets the record that is to be written.
 fn put_out(
     program: &Program,
     areas: &Areas,
@@ -333,9 +359,12 @@ fn put_out(
     entry: u32,
     from: Option<&Operand>,
 ) -> Result<Result<Option<Spot>, Abend>, NoMemory>
-    ensures { IfOk result (λ answer. PutsOut (declared_with program.now areas.now) entry
+    ensures does { IfOk result (λ answer. PutsOut (declared_with program.now areas.now) entry
         (from_by (declared_with program.now areas.now) entry store.old (option_copied from.entry))
         answer store.new scratch.new.items) }
+    ensures kept { IfErr result (λ e. MovedFrom
+        (from_by (declared_with program.now areas.now) entry store.old (option_copied from.entry))
+        store.old store.new) }
 {
     if let Err(abend) = moved_out(program, areas, store, scratch, entry, from)? {
         return Ok(Err(abend));
@@ -346,7 +375,7 @@ fn put_out(
     Ok(item)
 }
 
-/// WRITE.
+/// Does WRITE of a record, after its FROM.
 #[tactic(auto, using(crate::proofs::files_lemmas::BenchLemmas::done_listed, crate::proofs::files_lemmas::BenchLemmas::none_asked))]
 pub fn written(
     program: &Program,
@@ -379,6 +408,11 @@ pub fn written(
         (option_copied from.entry))
         bench.new.left
         (map ⟦<Box<dyn Device> as Watched>⟧.seen bench.new.devices.items) table.new.rows }
+
+    // the store is as it was, or as FROM left it
+    ensures kept { IfErr result (λ fault. MovedFrom
+        (from_by (declared_with program.now areas.now) entry store.old (option_copied from.entry))
+        store.old store.new) }
 {
     match put_out(program, areas, store, scratch, entry, from)? {
         Err(abend) => Ok(ActOutcome::Abended(abend)),
@@ -391,7 +425,7 @@ pub fn written(
     }
 }
 
-/// REWRITE.
+/// Does REWRITE of a record, after its FROM.
 #[tactic(auto, using(crate::proofs::files_lemmas::BenchLemmas::done_listed, crate::proofs::files_lemmas::BenchLemmas::none_asked))]
 pub fn rewritten(
     program: &Program,
@@ -424,6 +458,11 @@ pub fn rewritten(
         (option_copied from.entry))
         bench.new.left
         (map ⟦<Box<dyn Device> as Watched>⟧.seen bench.new.devices.items) table.new.rows }
+
+    // the store is as it was, or as FROM left it
+    ensures kept { IfErr result (λ fault. MovedFrom
+        (from_by (declared_with program.now areas.now) entry store.old (option_copied from.entry))
+        store.old store.new) }
 {
     match put_out(program, areas, store, scratch, entry, from)? {
         Err(abend) => Ok(ActOutcome::Abended(abend)),

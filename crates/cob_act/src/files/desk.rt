@@ -1,4 +1,5 @@
-//! What devices are asked. A file that the program hasn't is never open, and has no name.
+//! The operations on files, by their number. A file that the program doesn't have is never open,
+//! and has no name.
 
 ghost use Rattle.std.specs.Prelude.{ℕ, List, ◌≡◌, ◌<◌, ◌≤◌, ◌^◌, IsTrue, Ok, length, map, slice_get, take, vec_len};
 ghost use Rattle.file_model.specs.Attempts.{closed_at, opened_at, read_at, rewritten_at, written_at};
@@ -36,7 +37,7 @@ fn has_rows(table: &FileTable, files: &[FileEntry]) -> bool
     table.rows.len() == files.len() && files.len() < 1 << 32
 }
 
-// Whether this file is one of them.
+// Whether the table has a row for each file, and this file is one of them.
 fn has_row(table: &FileTable, files: &[FileEntry], file: u32) -> bool
     ensures rows { IsTrue result → length table.now.rows ≡ length files.now }
     ensures few { IsTrue result → length files.now < 2 ^ 32 }
@@ -47,6 +48,7 @@ fn has_row(table: &FileTable, files: &[FileEntry], file: u32) -> bool
     has_rows(table, files) && (file as usize) < files.len()
 }
 
+/// OPEN of a file: its status, or why it broke off.
 pub fn open(
     bench: &mut Bench,
     table: &mut FileTable,
@@ -76,6 +78,7 @@ pub fn open(
     status_of(tried)
 }
 
+/// CLOSE of a file: its status, or why it broke off.
 pub fn close(
     bench: &mut Bench,
     table: &mut FileTable,
@@ -104,6 +107,7 @@ pub fn close(
     status_of(tried)
 }
 
+/// READ of a file into `into`: its status, or why it broke off.
 pub fn read(
     bench: &mut Bench,
     table: &mut FileTable,
@@ -139,6 +143,7 @@ pub fn read(
     status_of(tried)
 }
 
+/// WRITE of a record: its status, or why it broke off.
 pub fn write(
     bench: &mut Bench,
     table: &mut FileTable,
@@ -169,6 +174,7 @@ pub fn write(
     status_of(tried)
 }
 
+/// REWRITE of a record: its status, or why it broke off.
 pub fn rewrite(
     bench: &mut Bench,
     table: &mut FileTable,

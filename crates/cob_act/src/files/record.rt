@@ -1,6 +1,6 @@
-//! Records: where they lie, and what is moved to them and from them.
+//! Records: where they are, and what is moved to them and from them.
 
-ghost use Rattle.std.specs.Prelude.{◌≡◌, ◌-◌, IfOk, length, option_copied, slice_get};
+ghost use Rattle.std.specs.Prelude.{◌≡◌, ◌-◌, IfErr, IfOk, length, option_copied, slice_get};
 ghost use Rattle.file_model.specs.Attempts.{padded_to};
 ghost use Rattle.meanings.specs.statements.Does.{declared_with};
 ghost use Rattle.meanings.specs.statements.Filing.{entry_bytes, file_by, file_of, first_entry, from_by, into_by, is_of_file, record_spot, root_by};
@@ -75,7 +75,7 @@ fn file_by(entry: Option<&Entry>) -> Option<u32>
     }
 }
 
-/// The file that an entry is of.
+/// The file that an entry belongs to.
 pub fn file_of(program: &Program, areas: &Areas, entry: u32) -> u32
     ensures { result ≡ file_of (declared_with program.now areas.now) entry }
 {
@@ -85,7 +85,7 @@ pub fn file_of(program: &Program, areas: &Areas, entry: u32) -> u32
     }
 }
 
-// An item as it stands, without subscripts and window.
+// An item as a place without subscripts and window.
 fn item_place(alloc: Global, item: u32) -> Place
     ensures { result ≡ item_place item }
 {
@@ -106,8 +106,9 @@ pub fn moved_into(
     file: u32,
     into: Option<&Place>,
 ) -> Result<Result<(), Abend>, NoMemory>
-    ensures { IfOk result (λ answer. outcome_of store.new answer
+    ensures does { IfOk result (λ answer. outcome_of store.new answer
         ≡ into_by (declared_with program.now areas.now) file store.old (option_copied into.entry)) }
+    ensures kept { IfErr result (λ e. store.new ≡ store.old) }
 {
     match into {
         None => Ok(Ok(())),
@@ -136,8 +137,9 @@ pub fn moved_out(
     entry: u32,
     from: Option<&Operand>,
 ) -> Result<Result<(), Abend>, NoMemory>
-    ensures { IfOk result (λ answer. outcome_of store.new answer
+    ensures does { IfOk result (λ answer. outcome_of store.new answer
         ≡ from_by (declared_with program.now areas.now) entry store.old (option_copied from.entry)) }
+    ensures kept { IfErr result (λ e. store.new ≡ store.old) }
 {
     match from {
         None => Ok(Ok(())),

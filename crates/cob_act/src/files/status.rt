@@ -68,7 +68,7 @@ fn always_ends(status: u8) -> bool
     status == 46 || status == 47
 }
 
-// A status other than 00 that nothing takes care of ends the run.
+// A status other than 00 ends the run, where the program doesn't handle it.
 fn end_by(cared: bool, status: u8) -> ActOutcome
     ensures { ended_as result ≡ end_by cared status }
 {
@@ -79,7 +79,7 @@ fn end_by(cared: bool, status: u8) -> ActOutcome
     }
 }
 
-/// The status is stored, and then it ends so.
+/// Stores the status, and says how the statement ends.
 pub fn settled(store: &mut Store, item: Option<Spot>, cared: bool, status: u8) -> ActOutcome
     ensures end { ended_as result
         ≡ end_by ((is_some item || cared) && not (always_ends status)) status }

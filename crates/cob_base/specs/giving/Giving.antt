@@ -19,5 +19,7 @@ Keeps sink = sink.now ≡ sink.held
 -- the sink gained a front of these bytes, and all of them unless its count rose
 pub record Takes (bytes : List ℕ) (sink : SinkCall) : Type 0 where
   pub some : ℕ
+  -- the sink gained so many of them
   pub gained : Gains (take some bytes) sink
+  -- and all, unless its count of failures rose
   pub all : (Rose sink.count sink.count_now → ⊥) → take some bytes ≡ bytes

@@ -10,8 +10,8 @@ use cob_base::{Items, NoMemory};
 use cob_tree::Entry;
 use std::alloc::Global;
 
-/// What lies over one another: the number of each entry's root, where it stands in no group; the
-/// bytes of each root; and the file of the last item that stands in no group.
+/// The roots so far: the number of each entry's root, where the entry is in no group; the bytes of
+/// each root; and the file of the last item that is in no group.
 #[derive(Debug, Drop)]
 pub struct Roots {
     pub of: Items<usize>,
@@ -126,8 +126,8 @@ fn total(sizes: &[u32]) -> u64
     total
 }
 
-/// The bytes of all items of level 01 and 77, a file's records once; past the last number of 64
-/// bits it counts as that.
+/// The bytes of all items of level 01 and 77, a file's records counted once; at most the largest
+/// `u64`.
 pub fn storage_of(alloc: Global, entries: &[Entry]) -> Result<u64, NoMemory>
     ensures { Makes (storages.storage_of entries.now) result }
 {

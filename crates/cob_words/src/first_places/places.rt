@@ -11,9 +11,9 @@ use indexmap::IndexMap;
 use std::alloc::Global;
 use std::marker::Model;
 
-/// Words, each with the first place where it stands.
+/// Words, each with its first place.
 ///
-/// A contract sees them as the list of the words.
+/// Contracts see the list of the words.
 #[derive(Drop)]
 pub struct WordPlaces {
     words: Items<Word>,
@@ -35,6 +35,7 @@ impl Model for WordPlaces {
 }
 
 impl WordPlaces {
+    /// A table of these words.
     pub fn of(alloc: Global, words: Items<Word>) -> Result<WordPlaces, NoMemory>
         ensures { Makes words result }
     {
@@ -42,14 +43,14 @@ impl WordPlaces {
         Ok(WordPlaces { words, firsts })
     }
 
-    /// How many there are, each as often as it stands.
+    /// How many there are; a word that is there twice counts twice.
     pub fn len(&self) -> usize
         ensures { result ≡ length self.now }
     {
         self.words.len()
     }
 
-    /// The first place where a word stands.
+    /// The first place of a word.
     pub fn first(&self, word: &Word) -> Option<usize>
         ensures value { result ≡ position (bytes_eq word.now) self.now }
         ensures within { IfSome result (λ at. at < length self.now) }
@@ -67,7 +68,7 @@ impl WordPlaces {
         self.first(word).is_some()
     }
 
-    /// Whether a word stands before a place.
+    /// Whether a word comes before a place.
     pub fn has_before(&self, word: &Word, at: usize) -> bool
         ensures { result ≡ list_any (bytes_eq word.now) (take at self.now) }
     {
@@ -86,7 +87,7 @@ fn put(firsts: &mut IndexMap<Word, usize>, word: Word, at: usize) -> Result<(), 
     Ok(())
 }
 
-// The last word comes first, so that the first place of a word is what stays.
+// The words are taken from the last to the first, so that a word's first place stays.
 fn firsts_of(alloc: Global, words: &[Word]) -> Result<IndexMap<Word, usize>, NoMemory>
     ensures { IfOk result (λ firsts. (word : List ℕ) → get bytes_eq firsts word
         ≡ position (bytes_eq word) words.now) }

@@ -13,7 +13,7 @@ pub record ConditionsAreRead : Type 0 where
   -- as statements have it
   pub whole_cond : (names : Names) → IsReader (whole_cond names)
 
--- more levels change neither what is read nor a fault of another kind, and go on behind the
+-- more levels change neither what is read nor a fault of another kind, and go on after the
 -- parenthesis that was one too many
 abbrev pub LevelsOnlyAdd : Type 0
 LevelsOnlyAdd = (names : Names) (count m n : ℕ) → m ≤ n →

@@ -14,24 +14,28 @@ use Rattle.cobol_grammar.specs.declared.cond_forms.test.Primary.TheVariants as p
 use Rattle.cobol_grammar.specs.declared.cond_forms.test.Read.{Read}
 use Rattle.cobol_grammar.specs.cond_forms.Test.{read_test, tested}
 
+-- an expression from its first operand on, and its test, if there is one
 unfoldable pub side_prim : Names → Inner → ℕ → Side → ℕ → Form Read
 side_prim names inner before side count = do
   left ← sum names inner side count
   tested names inner left.0 before left.1
 
--- behind the parentheses it is decided what stood in them
+-- what follows parentheses, by which it is decided what was in them
 unfoldable pub prim_behind : Names → Inner → ℕ → Primary → ℕ → Form Read
 prim_behind names inner before (prims.Test cond setting) count = pure (read_test cond None count)
 prim_behind names inner before (prims.Alone side) count = side_prim names inner before side count
 
+-- a primary condition that doesn't begin with a parenthesis
 unfoldable pub expr_prim : Names → Inner → ℕ → Form Read
 expr_prim names inner count =
     unary names inner count >>= (λ first. side_prim names inner count first.0 first.1)
 
+-- a primary condition that begins with a parenthesis
 unfoldable pub parens_prim : Names → Inner → (ℕ → Form Read) → ℕ → Form Read
 parens_prim names inner content count =
     content count >>= (λ read. prim_behind names inner count read.prim read.count)
 
+-- a primary condition
 unfoldable pub prim : Names → Inner → (ℕ → Form Read) → ℕ → Form Read
 prim names inner content count =
     where_next (is_mark left_parenthesis) (parens_prim names inner content count)

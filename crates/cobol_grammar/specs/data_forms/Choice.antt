@@ -9,6 +9,7 @@ use Rattle.parser_combinators.specs.Part.{key, maybe, period, is_key}
 abbrev pub is_either : List ℕ → List ℕ → TokenKind → Bool
 is_either one other kind = is_key one kind || is_key other kind
 
+-- one of two words, with where it is
 unfoldable pub either : List ℕ → List ℕ → Form Position
 either one other = where_next (is_key one) (key one) (key other)
 

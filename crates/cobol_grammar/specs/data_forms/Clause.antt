@@ -15,6 +15,7 @@ use Rattle.cobol_grammar.specs.data_forms.Choice.{either, is_either, maybe_eithe
 
 -- ---- REDEFINES word
 
+-- REDEFINES word
 unfoldable pub redefines_clause : Form Clause
 redefines_clause = do
   at ← key (codes "REDEFINES")
@@ -23,9 +24,11 @@ redefines_clause = do
 
 -- ---- (PIC | PICTURE) [IS] picture
 
+-- PIC or PICTURE
 abbrev pub is_pic : TokenKind → Bool
 is_pic kind = is_either (codes "PIC") (codes "PICTURE") kind
 
+-- the PICTURE clause: (PIC | PICTURE) [IS] picture
 unfoldable pub picture_clause : Form Clause
 picture_clause = do
   at ← either (codes "PIC") (codes "PICTURE")
@@ -35,12 +38,15 @@ picture_clause = do
 
 -- ---- [USAGE [IS]] DISPLAY
 
+-- USAGE or DISPLAY
 abbrev pub is_usage : TokenKind → Bool
 is_usage kind = is_either (codes "USAGE") (codes "DISPLAY") kind
 
+-- the USAGE clause after its first word: [IS] DISPLAY
 unfoldable pub usage_behind : Position → Form Clause
 usage_behind at = maybe (codes "IS") >> key (codes "DISPLAY") >> pure (clauses.Usage at)
 
+-- the USAGE clause: [USAGE [IS]] DISPLAY
 unfoldable pub usage_clause : Form Clause
 usage_clause =
     where_next (is_key (codes "USAGE")) (key (codes "USAGE") >>= usage_behind)
@@ -48,24 +54,28 @@ usage_clause =
 
 -- ---- [SIGN [IS]] (LEADING | TRAILING) [SEPARATE [CHARACTER]]
 
+-- LEADING or TRAILING
 abbrev pub is_side : TokenKind → Bool
 is_side kind = is_either (codes "LEADING") (codes "TRAILING") kind
 
+-- SIGN, LEADING or TRAILING
 abbrev pub is_sign : TokenKind → Bool
 is_sign kind = is_key (codes "SIGN") kind || is_side kind
 
--- whether it is LEADING, and where the word stands
+-- LEADING or TRAILING: whether it is LEADING, and where the word is
 unfoldable pub side : Form (Bool × Position)
 side =
     where_next (is_key (codes "LEADING")) (key (codes "LEADING") >>= (λ at. pure (true, at)))
     (key (codes "TRAILING") >>= (λ at. pure (false, at)))
 
+-- whether the sign is separate: [SEPARATE [CHARACTER]]
 unfoldable pub separate : Form Bool
 separate =
     where_next (is_key (codes "SEPARATE"))
     (key (codes "SEPARATE") >> maybe (codes "CHARACTER") >> pure true)
     (pure false)
 
+-- the SIGN clause after its first word: [IS] (LEADING | TRAILING) [SEPARATE [CHARACTER]]
 unfoldable pub sign_behind : Position → Form Clause
 sign_behind at = do
   maybe (codes "IS")
@@ -73,18 +83,21 @@ sign_behind at = do
   apart ← separate
   pure (clauses.Sign at found.0 apart)
 
+-- the SIGN clause without that word: (LEADING | TRAILING) [SEPARATE [CHARACTER]]
 unfoldable pub side_clause : Form Clause
 side_clause = do
   found ← side
   apart ← separate
   pure (clauses.Sign found.1 found.0 apart)
 
+-- the SIGN clause: [SIGN [IS]] (LEADING | TRAILING) [SEPARATE [CHARACTER]]
 unfoldable pub sign_clause : Form Clause
 sign_clause =
     where_next (is_key (codes "SIGN")) (key (codes "SIGN") >>= sign_behind) side_clause
 
 -- ---- OCCURS n [TIMES]
 
+-- the OCCURS clause: OCCURS n [TIMES]
 unfoldable pub occurs_clause : Form Clause
 occurs_clause = do
   at ← key (codes "OCCURS")
@@ -94,30 +107,37 @@ occurs_clause = do
 
 -- ---- (VALUE | VALUES) [IS | ARE] lit [THRU lit] {lit [THRU lit]}
 
+-- VALUE or VALUES
 abbrev pub is_value : TokenKind → Bool
 is_value kind = is_either (codes "VALUE") (codes "VALUES") kind
 
+-- THRU or THROUGH
 abbrev pub is_thru : TokenKind → Bool
 is_thru kind = is_either (codes "THRU") (codes "THROUGH") kind
 
+-- the end of a range of values: (THRU | THROUGH) lit
 unfoldable pub thru : Form ThruDraft
 thru = do
   at ← either (codes "THRU") (codes "THROUGH")
   found ← literal
   pure (record { at = at; to = found.0; to_at = found.1 })
 
+-- the end of a range of values, if there is one: [THRU lit]
 unfoldable pub maybe_thru : Form (Option ThruDraft)
 maybe_thru = where_next is_thru (thru >>= (λ found. pure (Some found))) (pure None)
 
+-- a value or a range of values: lit [THRU lit]
 unfoldable pub span : Form SpanDraft
 span = do
   found ← literal
   end ← maybe_thru
   pure (record { from = found.0; from_at = found.1; thru = end })
 
+-- values and ranges of values, one at least: lit [THRU lit] {lit [THRU lit]}
 unfoldable pub spans : Form (List SpanDraft)
 spans = some begins_literal span
 
+-- the VALUE clause: (VALUE | VALUES) [IS | ARE] lit [THRU lit] {lit [THRU lit]}
 unfoldable pub value_clause : Form Clause
 value_clause = do
   at ← either (codes "VALUE") (codes "VALUES")
@@ -127,18 +147,22 @@ value_clause = do
 
 -- ---- a clause
 
+-- a word with which a clause begins
 unfoldable pub begins_clause : TokenKind → Bool
 begins_clause kind =
     is_key (codes "REDEFINES") kind
     || (is_pic kind || (is_usage kind || (is_sign kind
     || (is_key (codes "OCCURS") kind || is_value kind))))
 
+-- OCCURS or VALUE
 unfoldable pub counted_clause : Form Clause
 counted_clause = where_next (is_key (codes "OCCURS")) occurs_clause value_clause
 
+-- USAGE, SIGN, OCCURS or VALUE
 unfoldable pub stored_clause : Form Clause
 stored_clause = where_next is_usage usage_clause (where_next is_sign sign_clause counted_clause)
 
+-- a clause of an entry
 unfoldable pub clause : Form Clause
 clause =
     where_next (is_key (codes "REDEFINES")) redefines_clause

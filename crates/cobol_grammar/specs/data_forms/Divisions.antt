@@ -1,4 +1,4 @@
--- All that stands before the PROCEDURE DIVISION.
+-- All that comes before the PROCEDURE DIVISION.
 use Rattle.std.specs.Prelude.{ℕ, codes, List}
 use Rattle.cob_tree.specs.declared.place.Place.{Place}
 use Rattle.cobol_grammar.specs.declared.data_forms.draft.Divisions.{Divisions}
@@ -19,6 +19,7 @@ identification = do
   period
   pure found.0
 
+-- the IDENTIFICATION, ENVIRONMENT and DATA DIVISION
 unfoldable pub divisions : Form Place → Form Divisions
 divisions status = do
   name ← identification

@@ -13,6 +13,7 @@ entry_name =
     where_next (is_key (codes "FILLER")) (key (codes "FILLER") >> pure None)
     (where_next is_name (name >>= (λ found. pure (Some found.0))) (pure None))
 
+-- any number of clauses of an entry: {clause}
 unfoldable pub entry_clauses : Form (List Clause)
 entry_clauses = many begins_clause clause
 

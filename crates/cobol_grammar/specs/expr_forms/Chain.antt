@@ -12,9 +12,11 @@ use Rattle.cobol_grammar.specs.declared.expr_forms.chain.Chain.{Chain}
 use Rattle.cobol_grammar.specs.expr_forms.Fault.{is_whole}
 use Rattle.cobol_grammar.specs.expr_forms.Side.{expr_of}
 
+-- one operand, and no operator yet
 abbrev pub chain_of : Side → Chain
 chain_of side = record { before = None; last = side }
 
+-- the term before and its operator joined to the last term
 abbrev pub finished : Option PendingTerm → Side → Side
 finished None last = last
 finished (Some b) last = record {
@@ -25,9 +27,11 @@ finished (Some b) last = record {
   leaf = b.position;
 }
 
+-- a sum as far as it was read, as one side
 unfoldable pub finish : Chain → Side
 finish chain = finished chain.before chain.last
 
+-- a term that waits for the next one, with its operator
 abbrev pub opened : Op → Side → PendingTerm
 opened op side = record {
   left = expr_of side.what;
@@ -36,6 +40,7 @@ opened op side = record {
   whole = is_whole side.kind;
 }
 
+-- the product or quotient of two sides
 abbrev pub multiplied : Op → Bool → Side → Side → Side
 multiplied op exact left right = record {
   what = whats.Sum (exprs.Both op (expr_of left.what) (expr_of right.what));

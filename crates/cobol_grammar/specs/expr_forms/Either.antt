@@ -10,17 +10,20 @@ use Rattle.cobol_grammar.specs.expr_forms.Fault.{whole_fault_at, kind_of}
 use Rattle.cobol_grammar.specs.expr_forms.Side.{place_of, ref_side, number_of, digits_side}
 use Rattle.cobol_grammar.specs.expr_forms.Chain.{chain_of, joined}
 
+-- a subscript that is a number
 abbrev pub number_sub : List ℕ → Sub
 number_sub digits = roll-Sub (record { base = None; plus = number_of false digits })
 
+-- a subscript that is an item and a number
 abbrev pub item_sub : Place → Bool → List ℕ → Sub
 item_sub place negative digits =
     roll-Sub (record { base = Some place; plus = number_of negative digits })
 
--- an item alone
+-- the subscript that is an item alone
 abbrev pub bare_sub : Place → Sub
 bare_sub place = item_sub place false (codes "0")
 
+-- a number, as a subscript and as the first operand of a sum
 abbrev pub number_either : List ℕ → Position → MaybeSubscripts
 number_either digits position = record {
   subs = number_sub digits ∷ [];
@@ -30,6 +33,7 @@ number_either digits position = record {
   fault = None;
 }
 
+-- a reference, as a subscript and as the first operand of a sum
 abbrev pub ref_either : Referent → List (List ℕ) → Position → MaybeSubscripts
 ref_either found of position = record {
   subs = [];
@@ -39,14 +43,16 @@ ref_either found of position = record {
   fault = whole_fault_at position (kind_of found);
 }
 
+-- the subscript that a number makes after an item, or alone
 abbrev pub added_sub : Option Place → Bool → List ℕ → Sub
 added_sub None negative digits = number_sub digits
 added_sub (Some place) negative digits = item_sub place negative digits
 
+-- one leaf more, up to the largest number of 32 bits
 abbrev pub more_leaves : ℕ → ℕ
 more_leaves leaves = min (leaves + 1) 4294967295
 
--- one more number behind `+` or `-`
+-- the subscripts with one more number after `+` or `-`
 unfoldable pub with_number : Op → Bool → List ℕ → Position → MaybeSubscripts → MaybeSubscripts
 with_number op negative digits position e = record e {
   subs = e.subs ++ added_sub e.base negative digits ∷ [];
@@ -55,9 +61,11 @@ with_number op negative digits position e = record e {
   leaves = more_leaves e.leaves;
 }
 
+-- the subscripts, with an item alone that waits for its number
 abbrev pub subs_with : Option Place → List Sub → List Sub
 subs_with None subs = subs
 subs_with (Some place) subs = subs ++ bare_sub place ∷ []
 
+-- all of it as subscripts
 unfoldable pub subs_of : MaybeSubscripts → List Sub
 subs_of e = subs_with e.base e.subs

@@ -24,7 +24,7 @@ pub record ExpressionsAreRead : Type 0 where
   pub data_operand : (names : Names) → IsReader (data_operand names)
   pub whole_expr : (names : Names) → IsReader (whole_expr names)
 
--- more levels change neither what is read nor a fault of another kind, and go on behind the
+-- more levels change neither what is read nor a fault of another kind, and go on after the
 -- parenthesis that was one too many
 abbrev pub ParenthesesOnlyAdd : Type 0
 ParenthesesOnlyAdd = (names : Names) (count m n : ℕ) → m ≤ n →

@@ -15,6 +15,7 @@ use Rattle.cobol_grammar.specs.expr_forms.Expression.{expr, in_nested}
 use Rattle.cobol_grammar.specs.expr_forms.Window.{in_window}
 use Rattle.cobol_grammar.specs.expr_forms.Front.{in_suffix}
 
+-- the parts in parentheses, with so many levels left; past the last one they are too deep
 unfoldable pub inner : Names → ℕ → Inner
 inner names zero = record {
   nested = λ count. too_deep Parens (is_mark left_parenthesis);
@@ -27,7 +28,7 @@ inner names (suc n) = record {
   window = λ count. in_window names (inner names n) false count;
 }
 
--- what stands in parentheses behind a reference outside of any expression, whose own aren't counted
+-- what is in parentheses after a reference outside of any expression, whose own aren't counted
 abbrev pub outer : Names → Inner
 outer names = record {
   nested = λ count. in_nested names (inner names max_parens) count;
@@ -41,7 +42,7 @@ outer names = record {
 unfoldable pub data_reference : Names → Form Side
 data_reference names = reference names (outer names) 0 >>= (λ side. pure side.0)
 
--- the same behind its first word
+-- the same after its first word
 unfoldable pub data_reference_behind : Names → List ℕ → Position → Form Side
 data_reference_behind names first position =
     reference_behind names (outer names) first position 0 >>= (λ side. pure side.0)
@@ -50,5 +51,6 @@ data_reference_behind names first position =
 unfoldable pub data_operand : Names → Form Side
 data_operand names = operand names (outer names) 0 >>= (λ side. pure side.0)
 
+-- an expression, outside of any other
 unfoldable pub whole_expr : Names → Form Side
 whole_expr names = expr names (inner names max_parens) 0 >>= (λ side. pure side.0)

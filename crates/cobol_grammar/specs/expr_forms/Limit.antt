@@ -8,12 +8,15 @@ use Rattle.parser_combinators.specs.declared.why.Why.TheVariants.{Terms}
 use Rattle.parser_combinators.specs.Form.{Form}
 use Rattle.parser_combinators.specs.Part.{unless}
 
--- so many more terms, unless they pass the limit at the next token
+-- the terms with so many more, unless they pass the limit at the next token
 abbrev pub count_terms : ℕ → ℕ → Form ℕ
 count_terms count more = unless Terms (nat_lt max_terms (count + more)) (count + more)
 
--- what stands in parentheses, by how many terms there are up to them
+-- what is in parentheses, by how many terms there are up to them
 pub record Inner : Type 1 where
+  -- an expression in parentheses
   pub nested : ℕ → Form (Side × ℕ)
+  -- subscripts or a window
   pub suffix : ℕ → Form (Suffix × ℕ)
+  -- a window
   pub window : ℕ → Form (Window × ℕ)

@@ -11,10 +11,12 @@ use Rattle.parser_combinators.specs.words.Constant.{literal}
 use Rattle.parser_combinators.specs.declared.why.Why.TheVariants.{Syntax}
 use Rattle.parser_combinators.specs.Form.{Form, pure, refuse, ◌>>=◌, where_next}
 
+-- a literal as an operand
 unfoldable pub literal_operand : ℕ → Form (Side × ℕ)
 literal_operand count =
     literal >>= (λ found. pure (literal_side found.0 (literal_kind found.0) found.1, count))
 
+-- an operand: ref | lit
 unfoldable pub operand : Names → Inner → ℕ → Form (Side × ℕ)
 operand names inner count = where_next begins_operand
     (count_terms count 1

@@ -18,15 +18,18 @@ use Rattle.parser_combinators.specs.words.Word.{name}
 use Rattle.symbol_tables.specs.data_names.Look.{look}
 use Rattle.cobol_grammar.specs.expr_forms.Limit.{Inner}
 
+-- a qualifier: (OF | IN) name
 unfoldable pub qualifier : Form (List ℕ)
 qualifier = do
   where_next (is_key (codes "OF")) (key (codes "OF")) (key (codes "IN"))
   found ← name
   pure found.0
 
+-- any number of qualifiers: {(OF | IN) name}
 abbrev pub qualifiers : Form (List (List ℕ))
 qualifiers = many is_of qualifier
 
+-- a window, or subscripts and then a window or none
 abbrev pub more_behind : Inner → Suffix → ℕ → Form RefSuffixes
 more_behind inner (suffixes.Window window) count =
     pure (record { subs = []; window = Some window; count = count })
@@ -41,19 +44,20 @@ behind inner count = where_next (is_mark left_parenthesis)
     (inner.suffix count >>= (λ suffix. more_behind inner suffix.0 suffix.1))
     (pure (record { subs = []; window = None; count = count }))
 
--- what stands behind the words of a reference
+-- what follows the words of a reference
 unfoldable pub ref_behind : Inner → Referent → (of : List (List ℕ)) → Position → ℕ → Form (Side × ℕ)
 ref_behind inner found of position count = do
   tail ← behind inner count
   note (found_fault found (length tail.subs) (is_some tail.window) position)
   pure (ref_side found of tail.subs tail.window position, tail.count)
 
--- a reference behind its first word
+-- a reference after its first word
 unfoldable pub reference_behind : Names → Inner → List ℕ → Position → ℕ → Form (Side × ℕ)
 reference_behind names inner first position count = do
   of ← qualifiers
   ref_behind inner (look names first of) of position count
 
+-- a reference from its first word on
 unfoldable pub reference : Names → Inner → ℕ → Form (Side × ℕ)
 reference names inner count = do
   first ← name

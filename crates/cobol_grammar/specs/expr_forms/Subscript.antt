@@ -15,30 +15,36 @@ use Rattle.symbol_tables.specs.data_names.Names.{Names}
 use Rattle.symbol_tables.specs.data_names.Look.{look}
 use Rattle.cobol_grammar.specs.expr_forms.Reference.{qualifiers}
 
+-- a token with which a subscript begins
 abbrev pub begins_sub : TokenKind → Bool
 begins_sub kind = is_mark plus_sign kind || (is_digits kind || is_name kind)
 
+-- a subscript that is a number after a plus sign
 unfoldable pub plus_sub_form : Form Sub
 plus_sub_form = do
   mark plus_sign
   found ← digits
   pure (number_sub found.0)
 
+-- a subscript that is a number
 unfoldable pub number_sub_form : Form Sub
 number_sub_form = digits >>= (λ found. pure (number_sub found.0))
 
+-- the sign and the digits after an item
 unfoldable pub item_sub_by : ℕ → Bool → Place → Form Sub
 item_sub_by byte negative place = do
   mark byte
   found ← digits
   pure (item_sub place negative found.0)
 
+-- what is added to the item of a subscript: [(+ | -) Digits]
 unfoldable pub item_sub_behind : Place → Form Sub
 item_sub_behind place =
     where_next (is_mark plus_sign) (item_sub_by plus_sign false place)
     (where_next (is_mark hyphen) (item_sub_by hyphen true place)
     (pure (bare_sub place)))
 
+-- a subscript that is an item: name {(OF | IN) name} [(+ | -) Digits]
 unfoldable pub item_sub_form : Names → Form Sub
 item_sub_form names = do
   first ← name
@@ -53,5 +59,6 @@ sub names =
     where_next (is_mark plus_sign) plus_sub_form
     (where_next is_digits number_sub_form (item_sub_form names))
 
+-- any number of subscripts, after those before
 abbrev pub more_subs : Names → List Sub → Form (List Sub)
 more_subs names first = loop begins_sub (added (sub names)) first

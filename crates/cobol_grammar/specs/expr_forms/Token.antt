@@ -14,11 +14,13 @@ use Rattle.parser_combinators.specs.words.Constant.{begins_literal}
 unfoldable pub is_of : TokenKind → Bool
 is_of kind = is_key (codes "OF") kind || is_key (codes "IN") kind
 
+-- a token with which an operand begins
 unfoldable pub begins_operand : TokenKind → Bool
 begins_operand kind = begins_literal kind || is_name kind
 
 -- ---- operators
 
+-- the operator of a mark
 abbrev pub op_of_byte : ℕ → Option Op
 op_of_byte byte =
     if byte == plus_sign then Some ops.Add
@@ -27,9 +29,11 @@ op_of_byte byte =
     else if byte == slash then Some ops.Div
     else None
 
+-- the operator of a token
 abbrev pub op_of : TokenKind → Option Op
 op_of (kinds.Mark b) = op_of_byte b
 op_of _ = None
 
+-- one of the signs + - * and /
 unfoldable pub begins_turn : TokenKind → Bool
 begins_turn kind = is_some (op_of kind)

@@ -1,4 +1,4 @@
--- "(" expr : [expr] ")"
+-- a window: "(" expr : [expr] ")"
 use Rattle.std.specs.Prelude.{ℕ, Bool, true, false, Option, Some, None}
 use Rattle.cob_tree.specs.declared.place.Expr.{Expr}
 use Rattle.cob_tree.specs.declared.place.Window.{Window, roll-Window}
@@ -24,7 +24,7 @@ abbrev pub second_count : (alone : Bool) → ℕ → ℕ
 second_count true count = 0
 second_count false count = count
 
--- behind its first expression
+-- the rest of a window after its first expression
 unfoldable pub window_behind : Names → Inner → (alone : Bool) → Side → ℕ → Form (Window × ℕ)
 window_behind names inner alone first count = do
   mark colon
@@ -33,6 +33,7 @@ window_behind names inner alone first count = do
   mark right_parenthesis
   pure (roll-Window (record { from = expr_of first.what; length = size.0 }), size.1)
 
+-- a window: "(" expr : [expr] ")"
 unfoldable pub in_window : Names → Inner → (alone : Bool) → ℕ → Form (Window × ℕ)
 in_window names inner alone count = do
   mark left_parenthesis

@@ -24,9 +24,11 @@ number_operands parts = some parts.begins_operand (number_operand parts)
 
 -- ---- tgt = ref [ROUNDED]
 
+-- whether a target is rounded: [ROUNDED]
 unfoldable pub rounded : Form Bool
 rounded = where_next (is_key (codes "ROUNDED")) (key (codes "ROUNDED") >> pure true) (pure false)
 
+-- a target, rounded or not
 abbrev pub target_of : Place → Bool → Target
 target_of place rounded = record { place = place; rounded = rounded }
 
@@ -38,7 +40,7 @@ target parts = do
   round ← rounded
   pure (target_of (parts.place_of side) round)
 
--- an item behind GIVING, or of COMPUTE
+-- an item after GIVING, or of COMPUTE
 unfoldable pub result : {Side Known : Type 0} → Parts Side Known → Form Target
 result parts = do
   side ← parts.reference
@@ -46,6 +48,7 @@ result parts = do
   round ← rounded
   pure (target_of (parts.place_of side) round)
 
+-- the targets after GIVING, or of COMPUTE, one at least
 abbrev pub results : {Side Known : Type 0} → Parts Side Known → Form (List Target)
 results parts = some parts.is_name (result parts)
 
@@ -59,33 +62,40 @@ giving parts = key (codes "GIVING") >> results parts
 abbrev pub Goal : Type 0
 Goal = Option Operand × List Target
 
+-- GIVING and its targets, after an operand
 unfoldable pub giving_goal : {Side Known : Type 0} → Parts Side Known → Operand → Form Goal
 giving_goal parts operand = giving parts >>= (λ into. pure (Some operand, into))
 
+-- a literal, and GIVING with its targets
 unfoldable pub literal_goal : {Side Known : Type 0} → Parts Side Known → Form Goal
 literal_goal parts = number_operand parts >>= giving_goal parts
 
+-- any number of targets, after the first
 abbrev pub more_targets : {Side Known : Type 0} → Parts Side Known → Target → Form (List Target)
 more_targets parts first = loop parts.is_name (added (target parts)) (first ∷ [])
 
+-- what follows the first target: [ROUNDED] {tgt}
 unfoldable pub targets_goal : {Side Known : Type 0} → (parts : Parts Side Known) → Side → Form Goal
 targets_goal parts side = do
   round ← rounded
   into ← more_targets parts (target_of (parts.place_of side) round)
   pure (None, into)
 
+-- what follows an item: GIVING with its targets, or more targets
 unfoldable pub item_goal_behind : {Side Known : Type 0} → (parts : Parts Side Known) →
     Side → Form Goal
 item_goal_behind parts side =
     where_next (is_key (codes "GIVING")) (giving_goal parts (parts.operand_of side))
     (targets_goal parts side)
 
+-- an item, and what follows it
 unfoldable pub item_goal : {Side Known : Type 0} → Parts Side Known → Form Goal
 item_goal parts = do
   side ← parts.reference
   note (parts.number_fault side)
   item_goal_behind parts side
 
+-- targets, or an operand and the targets that it gives: tgt {tgt} | operand GIVING tgt {tgt}
 unfoldable pub goal : {Side Known : Type 0} → Parts Side Known → Form Goal
 goal parts = where_next parts.is_name (item_goal parts) (literal_goal parts)
 
@@ -95,28 +105,34 @@ goal parts = where_next parts.is_name (item_goal parts) (literal_goal parts)
 abbrev pub Work : Type 0
 Work = Calc × List Target
 
+-- ADD of these operands, to or giving these targets
 abbrev pub added_to : List Operand → Goal → Work
 added_to parts (None, into) = (calcs.Add parts, into)
 added_to parts (Some to, into) = (calcs.AddGiving (parts ++ to ∷ []), into)
 
+-- SUBTRACT of these operands, from or giving these targets
 abbrev pub subtracted_from : List Operand → Goal → Work
 subtracted_from parts (None, into) = (calcs.Subtract parts, into)
 subtracted_from parts (Some from, into) = (calcs.SubtractGiving parts from, into)
 
+-- MULTIPLY of this operand, by or giving these targets
 abbrev pub multiplied_by : Operand → Goal → Work
 multiplied_by one (None, into) = (calcs.Multiply one, into)
 multiplied_by one (Some by, into) = (calcs.MultiplyGiving one by, into)
 
+-- DIVIDE of this operand, into or giving these targets
 abbrev pub divided_into : Operand → Goal → Work
 divided_into by (None, into) = (calcs.Divide by, into)
 divided_into by (Some into, results) = (calcs.DivideGiving by into, results)
 
+-- what follows ADD and its operands: TO tgt {tgt} | TO operand GIVING tgt {tgt}
 unfoldable pub add_to : {Side Known : Type 0} → Parts Side Known → List Operand → Form Work
 add_to parts operands = do
   key (codes "TO")
   found ← goal parts
   pure (added_to operands found)
 
+-- what follows ADD and its operands without TO: GIVING tgt {tgt}
 unfoldable pub add_giving : {Side Known : Type 0} → Parts Side Known → List Operand → Form Work
 add_giving parts operands = giving parts >>= (λ into. pure (calcs.AddGiving operands, into))
 
@@ -145,6 +161,7 @@ multiply parts = do
   found ← goal parts
   pure (multiplied_by one found)
 
+-- what follows DIVIDE and its operand: INTO tgt {tgt} | INTO operand GIVING tgt {tgt}
 unfoldable pub divide_into : {Side Known : Type 0} → Parts Side Known → Operand → Form Work
 divide_into parts by = do
   key (codes "INTO")
@@ -166,6 +183,7 @@ divide parts = do
   one ← number_operand parts
   where_next (is_key (codes "BY")) (divide_by parts one) (divide_into parts one)
 
+-- the sign of COMPUTE: = | EQUAL
 unfoldable pub equals : Form (Unit {0})
 equals =
     where_next (is_mark equal_sign) (mark equal_sign >> pure tt) (key (codes "EQUAL") >> pure tt)

@@ -17,15 +17,18 @@ use Rattle.parser_combinators.specs.Part.{key, maybe, is_key}
 use Rattle.cobol_grammar.specs.stmt_forms.Part.{Parts}
 use Rattle.cobol_grammar.specs.stmt_forms.Move.{value}
 
+-- the number of a file, or 0 where its name is unknown
 abbrev pub index_or_0 : Option ℕ → ℕ
 index_or_0 None = 0
 index_or_0 (Some index) = index
 
+-- the name of a file, as its number
 unfoldable pub file_name : {Side Known : Type 0} → Parts Side Known → Form ℕ
 file_name parts = parts.file >>= (λ found. pure (index_or_0 found))
 
 -- ---- INPUT | OUTPUT | I-O | EXTEND
 
+-- the mode of OPEN that a word is
 unfoldable pub how_of_word : List ℕ → Option How
 how_of_word word =
     if bytes_eq word (codes "INPUT") then Some hows.Input
@@ -34,10 +37,12 @@ how_of_word word =
     else if bytes_eq word (codes "EXTEND") then Some hows.Extend
     else None
 
+-- the mode of OPEN that a token is
 abbrev pub how_of : TokenKind → Option How
 how_of (kinds.Word word) = how_of_word word
 how_of _ = None
 
+-- there is a value
 abbrev pub is_some : {A : Type 0} → Option A → Bool
 is_some None = false
 is_some (Some a) = true
@@ -47,28 +52,34 @@ abbrev pub how_in : Option TokenKind → Option How
 how_in None = None
 how_in (Some kind) = how_of kind
 
+-- the mode that the next of these tokens is, if it is one
 abbrev pub how_next : List Token → Option How
 how_next tokens = how_in (next tokens)
 
+-- INPUT, OUTPUT, I-O or EXTEND
 unfoldable pub begins_opening : TokenKind → Bool
 begins_opening kind = is_some (how_of kind)
 
+-- the mode of OPEN: INPUT | OUTPUT | I-O | EXTEND
 abbrev pub how : Form How
 how = one (λ position kind. how_of kind)
 
 -- ---- the statements
 
+-- OPEN of one file in this mode
 abbrev pub opening_of : How → ℕ → Opening
 opening_of how file = record { how = how; file = file }
 
+-- a file that is opened in this mode
 unfoldable pub open_one : {Side Known : Type 0} → Parts Side Known → How → Form Opening
 open_one parts how = file_name parts >>= (λ file. pure (opening_of how file))
 
+-- any number of files in this mode, after those before
 abbrev pub open_more : {Side Known : Type 0} → Parts Side Known →
     How → List Opening → Form (List Opening)
 open_more parts how before = loop parts.is_name (added (open_one parts how)) before
 
--- (INPUT | OUTPUT | I-O | EXTEND) word+, behind those before
+-- (INPUT | OUTPUT | I-O | EXTEND) word+, after those before
 unfoldable pub open_group : {Side Known : Type 0} → Parts Side Known →
     List Opening → Form (List Opening)
 open_group parts before = do
@@ -76,10 +87,12 @@ open_group parts before = do
   first ← open_one parts mode
   open_more parts mode (before ++ first ∷ [])
 
+-- any number of modes with their files, after those before
 abbrev pub open_groups : {Side Known : Type 0} → Parts Side Known →
     List Opening → Form (List Opening)
 open_groups parts before = loop begins_opening (open_group parts) before
 
+-- OPEN, with one mode or more and the files of each
 unfoldable pub open_stmt : {Side Known : Type 0} → Parts Side Known → Form Stmt
 open_stmt parts = do
   key (codes "OPEN")
@@ -87,6 +100,7 @@ open_stmt parts = do
   all ← open_groups parts first
   pure (stmts.Opens all)
 
+-- the names of files, one at least: word {word}
 abbrev pub file_names : {Side Known : Type 0} → Parts Side Known → Form (List ℕ)
 file_names parts = some parts.is_name (file_name parts)
 
@@ -97,6 +111,7 @@ close_stmt parts = do
   files ← file_names parts
   pure (stmts.Closes files)
 
+-- the operand of FROM
 unfoldable pub from_operand : {Side Known : Type 0} → (parts : Parts Side Known) →
     Side → Form (Option Operand)
 from_operand parts target = do
@@ -131,6 +146,7 @@ rewrite_stmt parts = do
 
 -- ---- the head of READ
 
+-- the place of INTO
 unfoldable pub into_item : {Side Known : Type 0} → Parts Side Known → Option ℕ → Form (Option Place)
 into_item parts file = do
   key (codes "INTO")
@@ -145,5 +161,6 @@ into_part parts file = do
   maybe (codes "RECORD")
   where_next (is_key (codes "INTO")) (into_item parts file) (pure None)
 
+-- READ and the name of its file
 unfoldable pub read_file : {Side Known : Type 0} → Parts Side Known → Form (Option ℕ)
 read_file parts = key (codes "READ") >> parts.file

@@ -1,10 +1,10 @@
--- What the forms on which statements stand must be.
+-- What the forms of which statements are made must be.
 use Rattle.std.specs.Prelude.{ℕ, true, false, List}
 use Rattle.parser_combinators.specs.declared.note.Position.{Position}
 use Rattle.parser_combinators.proofs.MakerLaws.{Law}
 use Rattle.cobol_grammar.specs.stmt_forms.Part.{Parts}
 
--- each form is lawful; each takes a token, but for what stands behind the first word of a reference
+-- each form is lawful; each takes a token, but for what follows the first word of a reference
 pub record PartsAreLawful {Side Known : Type 0} (parts : Parts Side Known) : Type 0 where
   pub operand : Law true parts.operand
   pub reference : Law true parts.reference

@@ -16,6 +16,7 @@ value parts = do
   note (parts.value_fault side)
   pure side
 
+-- an operand that is a value, as it is in the tree
 unfoldable pub value_operand : {Side Known : Type 0} → Parts Side Known → Form Operand
 value_operand parts = value parts >>= (λ side. pure (parts.operand_of side))
 
@@ -23,9 +24,11 @@ value_operand parts = value parts >>= (λ side. pure (parts.operand_of side))
 abbrev pub value_operands : {Side Known : Type 0} → Parts Side Known → Form (List Operand)
 value_operands parts = some parts.begins_operand (value_operand parts)
 
+-- WITH or NO
 abbrev pub begins_advancing : TokenKind → Bool
 begins_advancing kind = is_key (codes "WITH") kind || is_key (codes "NO") kind
 
+-- the words that keep the line: [WITH] NO ADVANCING
 unfoldable pub no_advancing : Form Bool
 no_advancing = do
   maybe (codes "WITH")
@@ -68,13 +71,14 @@ move_stmt parts = do
   to ← receivers parts from
   pure (stmts.Move (parts.operand_of from) to)
 
--- the name of a level 88, as a statement of its own
+-- SET of one name of a level 88, which is a statement of its own
 unfoldable pub set_one : {Side Known : Type 0} → Parts Side Known → Form Stmt
 set_one parts = do
   side ← parts.reference
   note (parts.condition_fault side)
   pure (stmts.SetTrue (parts.place_of side))
 
+-- any number of names, after those before
 abbrev pub set_more : {Side Known : Type 0} → Parts Side Known → List Stmt → Form (List Stmt)
 set_more parts before = loop parts.is_name (added (set_one parts)) before
 

@@ -17,29 +17,34 @@ use Rattle.cobol_grammar.specs.stmt_forms.Loop.{perform_stmt}
 
 -- ---- statements that hold no others
 
+-- DISPLAY or MOVE
 unfoldable pub moving_stmt : {Side Known : Type 0} → Parts Side Known → Form Stmt
 moving_stmt parts =
     where_next (is_key (codes "DISPLAY")) (display_stmt parts) (move_stmt parts)
 
--- behind those before
+-- a statement that moves, after those before; SET of several names is as many statements
 unfoldable pub moving_stmts : {Side Known : Type 0} → Parts Side Known →
     List Stmt → Form (List Stmt)
 moving_stmts parts before =
     where_next (is_key (codes "SET")) (set_stmts parts before) (added (moving_stmt parts) before)
 
+-- WRITE or REWRITE
 unfoldable pub writing_stmt : {Side Known : Type 0} → Parts Side Known → Form Stmt
 writing_stmt parts =
     where_next (is_key (codes "WRITE")) (write_stmt parts) (rewrite_stmt parts)
 
+-- OPEN, CLOSE, WRITE or REWRITE
 unfoldable pub filing_stmt : {Side Known : Type 0} → Parts Side Known → Form Stmt
 filing_stmt parts =
     where_next (is_key (codes "OPEN")) (open_stmt parts)
     (where_next (is_key (codes "CLOSE")) (close_stmt parts) (writing_stmt parts))
 
+-- a statement on files that holds no others, a jump, or what does nothing
 unfoldable pub filing_or_jump : {Side Known : Type 0} → Parts Side Known → Scope → Form Stmt
 filing_or_jump parts scope =
     where_next begins_filing (filing_stmt parts) (jump_stmt parts scope)
 
+-- a statement that holds no others, after those before; SET may be several
 unfoldable pub simple_stmts : {Side Known : Type 0} → Parts Side Known →
     Scope → List Stmt → Form (List Stmt)
 simple_stmts parts scope before =
@@ -47,15 +52,18 @@ simple_stmts parts scope before =
 
 -- ---- statements that hold others
 
+-- arithmetic, IF, EVALUATE or PERFORM
 unfoldable pub holding_stmt : {Side Known : Type 0} → Parts Side Known →
     Level → Scope → Form FoundOne
 holding_stmt parts level scope =
     where_next begins_arithmetic (arithmetic_stmt parts level scope)
     (where_next begins_choice (choice_stmt parts level scope) (perform_stmt parts level scope))
 
+-- a statement that was found, after those before
 abbrev pub behind : List Stmt → FoundOne → Found
 behind before found = (before ++ found.0 ∷ [], found.1)
 
+-- a statement that may hold others, after those before
 unfoldable pub held_stmts : {Side Known : Type 0} → Parts Side Known →
     Level → Scope → List Stmt → Form Found
 held_stmts parts level scope before =
@@ -64,19 +72,20 @@ held_stmts parts level scope before =
 
 -- ---- stmt
 
+-- a statement, after those before
 unfoldable pub stmt : {Side Known : Type 0} → Parts Side Known →
     Level → Scope → List Stmt → Form Found
 stmt parts level scope before =
     where_next begins_simple (simple_stmts parts scope before >>= (λ found. pure (found, false)))
     (held_stmts parts level scope before)
 
--- behind a NOT that isn't theirs no statement goes on
+-- one more statement; after a NOT that isn't theirs no statement goes on
 unfoldable pub stmts_turn : {Side Known : Type 0} → Parts Side Known →
     Level → Scope → Found → Form Found
 stmts_turn parts level scope found =
     chosen found.1 (refuse Syntax) (stmt parts level scope found.0)
 
--- as many statements as there are, behind those before
+-- as many statements as there are, after those before
 abbrev pub stmts_from : {Side Known : Type 0} → Parts Side Known →
     Level → Scope → Found → Form Found
 stmts_from parts level scope before = loop begins_stmt (stmts_turn parts level scope) before
@@ -85,19 +94,21 @@ stmts_from parts level scope before = loop begins_stmt (stmts_turn parts level s
 unfoldable pub stmts_with : {Side Known : Type 0} → Parts Side Known → Level → Scope → Form Found
 stmts_with parts level scope = stmt parts level scope [] >>= stmts_from parts level scope
 
--- nothing, where a level is left
+-- no token; refused where no level is left
 unfoldable pub enter_level : ℕ → Form (Unit {0})
 enter_level zero = refuse Nesting
 enter_level (suc n) = pure tt
 
--- what is held, with one level less
+-- held statements, which take one of the levels that are left; refused where none is
 unfoldable pub held : {Side Known : Type 0} → Parts Side Known → ℕ → Scope → Form Found
 held parts zero scope = refuse Nesting
 held parts (suc n) scope =
-    stmts_with parts (record { enter_level = enter_level n; stmts = held parts n }) scope
+    stmts_with parts (record { enter = enter_level n; stmts = held parts n }) scope
 
+-- what statements hold, with so many levels left
 abbrev pub level : {Side Known : Type 0} → Parts Side Known → ℕ → Level
-level parts levels = record { enter_level = enter_level levels; stmts = held parts levels }
+level parts levels = record { enter = enter_level levels; stmts = held parts levels }
 
+-- statements, one at least, with so many levels left
 abbrev pub stmts : {Side Known : Type 0} → Parts Side Known → ℕ → Scope → Form Found
 stmts parts levels scope = stmts_with parts (level parts levels) scope

@@ -21,12 +21,15 @@ begins_jumping kind =
     || (is_key (codes "STOP") kind
     || (is_key (codes "EXIT") kind || is_key (codes "CONTINUE") kind))
 
+-- ADD or SUBTRACT
 unfoldable pub begins_adding : TokenKind → Bool
 begins_adding kind = is_key (codes "ADD") kind || is_key (codes "SUBTRACT") kind
 
+-- MULTIPLY or DIVIDE
 unfoldable pub begins_multiplying : TokenKind → Bool
 begins_multiplying kind = is_key (codes "MULTIPLY") kind || is_key (codes "DIVIDE") kind
 
+-- ADD, SUBTRACT, MULTIPLY, DIVIDE or COMPUTE
 unfoldable pub begins_arithmetic : TokenKind → Bool
 begins_arithmetic kind =
     begins_adding kind || (begins_multiplying kind || is_key (codes "COMPUTE") kind)
@@ -35,14 +38,16 @@ begins_arithmetic kind =
 unfoldable pub begins_choice : TokenKind → Bool
 begins_choice kind = is_key (codes "IF") kind || is_key (codes "EVALUATE") kind
 
--- a statement that holds no other
+-- a token with which a statement begins that holds no other
 unfoldable pub begins_simple : TokenKind → Bool
 begins_simple kind = begins_moving kind || (begins_filing kind || begins_jumping kind)
 
+-- a statement that may hold others
 unfoldable pub begins_holding : TokenKind → Bool
 begins_holding kind =
     begins_arithmetic kind
     || (is_key (codes "READ") kind || (begins_choice kind || is_key (codes "PERFORM") kind))
 
+-- a statement
 unfoldable pub begins_stmt : TokenKind → Bool
 begins_stmt kind = begins_simple kind || begins_holding kind

@@ -9,7 +9,7 @@ pub fn conditions_are_read()
 {}
 
 /// More levels of parentheses change neither what is read nor a fault of another kind, and go on
-/// behind the parenthesis that was one too many.
+/// after the parenthesis that was one too many.
 pub fn levels_only_add()
     ensures { LevelsOnlyAdd }
 {}

@@ -3,14 +3,14 @@
 use crate::cond_forms::test::Setting;
 use cob_tree::Cond;
 
-/// A condition without AND and OR, and what abbreviations behind it stand for.
+/// A condition without AND and OR, and what abbreviations after it stand for.
 #[derive(Debug, Drop)]
 pub struct SimpleCond {
     pub cond: Cond,
     pub setting: Option<Setting>,
     /// How many terms there are up to here.
     pub count: u32,
-    /// Whether a NOT was read behind it that isn't its own.
+    /// Whether a NOT was read after it that isn't its own.
     pub pending_not: bool,
 }
 

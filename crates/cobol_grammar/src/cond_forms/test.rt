@@ -3,7 +3,7 @@
 use crate::expr_forms::Side;
 use cob_tree::{Cond, Rel};
 
-/// What an abbreviation stands for: a left side, a sign, and how many terms are written out again.
+/// What an abbreviation stands for: a left side, a sign, and how many terms it repeats.
 #[derive(Debug, Drop)]
 pub struct Setting {
     pub left: Side,
@@ -18,7 +18,7 @@ pub enum Primary {
     Alone(Side),
 }
 
-/// What was read, how many terms there are up to here, and whether a NOT was read behind it that
+/// What was read, how many terms there are up to here, and whether a NOT was read after it that
 /// isn't its own.
 #[derive(Debug, Drop)]
 pub struct Read {

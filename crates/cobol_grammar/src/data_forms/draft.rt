@@ -1,10 +1,10 @@
-//! What a text says of its files and data, before the rules on them are looked at.
+//! What a text says about its files and data, before the rules on them are checked.
 
 use cob_base::{Items, Text, Word};
 use cob_tree::{Operand, Place};
 use parser_combinators::Position;
 
-/// THRU, and the value behind it.
+/// THRU, and the value after it.
 #[derive(Debug, Drop)]
 pub struct ThruDraft {
     pub at: Position,
@@ -20,7 +20,7 @@ pub struct SpanDraft {
     pub thru: Option<ThruDraft>,
 }
 
-/// A clause of a data description entry. `at` is where its first token stands.
+/// A clause of a data description entry. `at` is the position of its first token.
 #[derive(Debug, Drop)]
 pub enum Clause {
     Redefines {
@@ -28,7 +28,7 @@ pub enum Clause {
         name: Word,
         name_at: Position,
     },
-    /// The text of a picture, and where it stands.
+    /// The text of a picture, and its position.
     Picture {
         at: Position,
         text: Text,
@@ -77,7 +77,7 @@ pub struct StatusDraft {
 #[derive(Debug, Drop)]
 pub struct SelectDraft {
     pub name: Word,
-    /// Where the name stands.
+    /// The position of the name.
     pub at: Position,
     /// The device's name for it.
     pub assign: Text,
@@ -88,7 +88,7 @@ pub struct SelectDraft {
 #[derive(Debug, Drop)]
 pub struct FdDraft {
     pub name: Word,
-    /// Where the name stands.
+    /// The position of the name.
     pub at: Position,
     pub entries: Items<EntryDraft>,
 }
@@ -101,7 +101,7 @@ pub struct DataDraft {
     pub storage: Items<EntryDraft>,
 }
 
-/// What stands before the PROCEDURE DIVISION.
+/// What comes before the PROCEDURE DIVISION.
 #[derive(Debug, Drop)]
 pub struct Divisions {
     /// The program's name.

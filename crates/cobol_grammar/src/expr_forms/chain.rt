@@ -4,7 +4,7 @@ use crate::expr_forms::side::Side;
 use cob_tree::{Expr, Op};
 use parser_combinators::Position;
 
-/// What stands before the last term of a sum.
+/// What comes before the last term of a sum.
 #[derive(Debug, Drop)]
 pub struct PendingTerm {
     pub left: Expr,

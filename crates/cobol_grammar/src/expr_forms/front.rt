@@ -1,12 +1,12 @@
-//! What stands first in the parentheses behind a reference.
+//! What comes first in the parentheses after a reference.
 
 use crate::expr_forms::chain::Chain;
 use crate::expr_forms::either::MaybeSubscripts;
 
-/// What stands first in the parentheses behind a reference.
+/// What comes first in the parentheses after a reference.
 #[derive(Debug, Drop)]
 pub enum FirstInParens {
     Either(MaybeSubscripts),
-    /// A sum that is no subscripts, and what was counted up to there.
+    /// A sum that isn't subscripts, and the terms that were counted up to there.
     Sum(Chain, u32),
 }

@@ -1,16 +1,16 @@
-//! What stands behind the words of a reference.
+//! What comes after the words of a reference.
 
 use cob_base::{Boxed, Items};
 use cob_tree::{Sub, Window};
 
-/// What stands in the parentheses behind a reference.
+/// What is in the parentheses after a reference.
 #[derive(Debug, Drop)]
 pub enum Suffix {
     Subs(Items<Sub>),
     Window(Boxed<Window>),
 }
 
-/// The subscripts and the window behind a reference, and how many terms there are up to there.
+/// The subscripts and the window after a reference, and how many terms there are up to there.
 #[derive(Debug, Drop)]
 pub struct RefSuffixes {
     pub subs: Items<Sub>,

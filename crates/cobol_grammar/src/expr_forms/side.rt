@@ -7,12 +7,12 @@ use cob_tree::{Expr, Operand, Place};
 use parser_combinators::Position;
 use std::alloc::Global;
 
-/// What a value is, as far as its uses go.
+/// The kind of a value, as far as its uses need it.
 #[derive(Clone, Copy, Debug, PartialEq, Eq)]
 pub enum ValueKind {
     /// A number, and whether it is without decimals.
     Number(bool),
-    /// A lowest item of characters, a literal in quotation marks, or what a window shows.
+    /// An elementary item of characters, a literal in quotation marks, or what a window shows.
     Text,
     /// An item with items below it, without a window.
     Group,
@@ -63,7 +63,7 @@ pub struct Side {
     pub make: ExprContent,
     /// Where it begins.
     pub position: Position,
-    /// Where its operand stands, if it is one.
+    /// The position of its operand, where it is one alone.
     pub leaf: Position,
 }
 

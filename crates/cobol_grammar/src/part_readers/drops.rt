@@ -1,50 +1,51 @@
-//! What is read of a statement is let go by calls, in the crates above: a check opens a tree where
-//! one goes by itself, and again in each crate where one does.
+//! What is read of a statement is dropped by these calls, also in the crates above: an implicit
+//! drop is checked with the drops of all types in the tree, in each function that has one; that of
+//! a call only once.
 
 use cob_base::Items;
 use cob_tree::{Cond, Control, Expr, Operand, Place, Stmt, Test};
 
-/// Lets an operand go.
+/// Drops an operand.
 pub fn drop_operand(operand: Operand) {
     drop(operand);
 }
 
-/// Lets operands go.
+/// Drops operands.
 pub fn drop_operands(operands: Items<Operand>) {
     drop(operands);
 }
 
-/// Lets an item go.
+/// Drops an item.
 pub fn drop_item(place: Place) {
     drop(place);
 }
 
-/// Lets items go.
+/// Drops items.
 pub fn drop_items(places: Items<Place>) {
     drop(places);
 }
 
-/// Lets an expression go.
+/// Drops an expression.
 pub fn drop_expr(expr: Expr) {
     drop(expr);
 }
 
-/// Lets a condition go.
+/// Drops a condition.
 pub fn drop_condition(cond: Cond) {
     drop(cond);
 }
 
-/// Lets the tests of a WHEN go.
+/// Drops the tests of a WHEN.
 pub fn drop_tests(tests: Items<Test>) {
     drop(tests);
 }
 
-/// Lets go what a PERFORM is controlled by.
+/// Drops the control of a PERFORM.
 pub fn drop_loop_control(control: Control) {
     drop(control);
 }
 
-/// Lets statements go.
+/// Drops statements.
 pub fn drop_stmts(stmts: Items<Stmt>) {
     drop(stmts);
 }

@@ -8,7 +8,7 @@ use cob_tree::Operand;
 use parser_combinators::{Cursor, Unread};
 use std::alloc::Global;
 
-/// An operand that is a number.
+/// Reads an operand that is a number.
 #[tactic(auto, unfolding(crate::specs::stmt_forms::Arithmetic::number_operand))]
 pub fn number_operand<P: Parts>(
     parts: &P,

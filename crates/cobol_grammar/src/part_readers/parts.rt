@@ -1,4 +1,4 @@
-//! What statements are made of, and how it is read.
+//! The parts of statements, and how they are read.
 
 ghost use Rattle.std.specs.Prelude.{◌≡◌};
 ghost use Rattle.parser_combinators.specs.Form as form;
@@ -15,7 +15,7 @@ use std::alloc::Global;
 pub trait Parts {
     /// An operand, reference or expression, and what is known of it.
     type Side: Drop;
-    /// What is kept of a subject of EVALUATE, to hold others against it.
+    /// What is kept of a subject of EVALUATE, so that others can be compared with it.
     type Known: Drop;
 
     ghost parts: { Self → PartForms Self.Side Self.Known };
@@ -32,13 +32,15 @@ pub trait Parts {
     fn at_procedure_word(&self, cursor: &Cursor<'_>) -> bool
         ensures { result ≡ form.is_next (parts self.now).is_procedure_word cursor.now };
 
+    /// Reads an operand.
     fn operand(&self, alloc: Global, cursor: &mut Cursor<'_>) -> Result<Self::Side, Unread>
         ensures { Reads ((parts self.now).operand.reads cursor.old) result cursor.new };
 
+    /// Reads a reference.
     fn reference(&self, alloc: Global, cursor: &mut Cursor<'_>) -> Result<Self::Side, Unread>
         ensures { Reads ((parts self.now).reference.reads cursor.old) result cursor.new };
 
-    /// A reference behind its first word.
+    /// Reads a reference after its first word.
     fn reference_behind(
         &self,
         alloc: Global,
@@ -53,26 +55,27 @@ pub trait Parts {
     fn digits_side(&self, digits: Text, position: Position) -> Self::Side
         ensures { result ≡ (parts self.now).digits_side digits position };
 
+    /// Reads an expression.
     fn expr(&self, alloc: Global, cursor: &mut Cursor<'_>) -> Result<Self::Side, Unread>
         ensures { Reads ((parts self.now).expr.reads cursor.old) result cursor.new };
 
-    /// A condition, and whether a NOT was read behind it that isn't its own.
+    /// Reads a condition, and whether a NOT was read after it that isn't its own.
     fn cond(&self, alloc: Global, cursor: &mut Cursor<'_>) -> Result<(Cond, bool), Unread>
         ensures { Reads ((parts self.now).cond.reads cursor.old) result cursor.new };
 
-    /// The name of a file, and its place among the files.
+    /// Reads the name of a file, and gives its place among the files.
     fn file(&self, cursor: &mut Cursor<'_>) -> Result<Option<u32>, Unread>
         ensures { Reads ((parts self.now).file.reads cursor.old) result cursor.new };
 
-    /// The name of a record that is written.
+    /// Reads the name of a record that is written.
     fn record_name(&self, alloc: Global, cursor: &mut Cursor<'_>) -> Result<Self::Side, Unread>
         ensures { Reads ((parts self.now).record_name.reads cursor.old) result cursor.new };
 
-    /// The name that a paragraph or section is given.
+    /// Reads the name in the header of a paragraph or section.
     fn header_name(&self, cursor: &mut Cursor<'_>) -> Result<(Word, Position), Unread>
         ensures { Reads ((parts self.now).header_name.reads cursor.old) result cursor.new };
 
-    /// The entry and the exit of what has this name.
+    /// The entry and the exit of the procedure with this name.
     fn procedure_of(&self, name: &[u8]) -> Option<(u32, u32)>
         ensures { result ≡ (parts self.now).procedure_of name.now };
 
@@ -80,38 +83,43 @@ pub trait Parts {
     fn duplicate_fault(&self, name: &Word, position: Position) -> Option<Note>
         ensures { result ≡ (parts self.now).duplicate_fault name.now position };
 
+    /// A side as an operand of the tree.
     fn operand_of(&self, side: Self::Side) -> Operand
         ensures { result ≡ (parts self.now).operand_of side };
 
+    /// A side as a place of the tree.
     fn place_of(&self, side: Self::Side) -> Place
         ensures { result ≡ (parts self.now).place_of side };
 
+    /// A side as an expression of the tree.
     fn expr_of(&self, side: Self::Side) -> Expr
         ensures { result ≡ (parts self.now).expr_of side };
 
+    /// The entry that a side names.
     fn entry_of(&self, side: &Self::Side) -> u32
         ensures { result ≡ (parts self.now).entry_of side.now };
 
+    /// What is kept of a side that is a subject of EVALUATE.
     fn known_of(&self, side: &Self::Side) -> Self::Known
         ensures { result ≡ (parts self.now).known_of side.now };
 
-    /// The fault where it is no value.
+    /// The fault of a side that isn't a value.
     fn value_fault(&self, side: &Self::Side) -> Option<Note>
         ensures { result ≡ (parts self.now).value_fault side.now };
 
-    /// The fault where it is no number.
+    /// The fault of a side that isn't a number.
     fn number_fault(&self, side: &Self::Side) -> Option<Note>
         ensures { result ≡ (parts self.now).number_fault side.now };
 
-    /// The fault where it is no number without decimals.
+    /// The fault of a side that isn't a number without decimals.
     fn whole_fault(&self, side: &Self::Side) -> Option<Note>
         ensures { result ≡ (parts self.now).whole_fault side.now };
 
-    /// The fault where it isn't the name of a level 88.
+    /// The fault of a side that isn't the name of a level 88.
     fn condition_fault(&self, side: &Self::Side) -> Option<Note>
         ensures { result ≡ (parts self.now).condition_fault side.now };
 
-    /// The fault where it takes no result of arithmetic.
+    /// The fault of a side that can't take a result of arithmetic.
     fn result_fault(&self, side: &Self::Side) -> Option<Note>
         ensures { result ≡ (parts self.now).result_fault side.now };
 

@@ -28,7 +28,8 @@ pub fn at_procedure<P: Parts>(parts: &P, cursor: &Cursor<'_>) -> bool
     parts.at_procedure_word(cursor) || at_digits(cursor)
 }
 
-/// The entry and exit of what has this name, or 0 where nothing has it.
+/// The entry and exit of the procedure with this name; both 0, and a fault noted, where there is
+/// none.
 #[tactic(auto, unfolding(crate::specs::stmt_forms::Jump::procedure_named))]
 pub fn procedure_named<P: Parts>(
     parts: &P,
@@ -73,7 +74,7 @@ fn digits_procedure<P: Parts>(
     procedure_named(parts, cursor, name.as_slice(), position)
 }
 
-/// The name of a procedure, and its entry and exit.
+/// Reads the name of a procedure, and gives it with its entry and exit.
 #[tactic(auto, unfolding(crate::specs::stmt_forms::Jump::procedure))]
 pub fn procedure<P: Parts>(
     parts: &P,

@@ -1,4 +1,4 @@
-//! Which tokens begin what.
+//! Which tokens begin which statements.
 
 ghost use Rattle.std.specs.Prelude.{◌≡◌};
 ghost use Rattle.parser_combinators.specs.Form as form;

@@ -12,20 +12,20 @@ pub enum ArithmeticVerb {
     Compute,
 }
 
-/// What stands where a phrase with NOT may.
+/// What is found where a phrase with NOT may be.
 #[derive(Clone, Copy, Debug, PartialEq, Eq)]
 pub enum NotPhrase {
     Missing,
     /// NOT and the statement's own phrase.
     Own,
-    /// NOT, which is of a statement further out.
+    /// NOT, which belongs to a statement further out.
     Foreign,
 }
 
 /// READ up to its arms.
 #[derive(Debug, Drop)]
 pub enum ReadHead {
-    /// A whole READ of a file, and NEXT SENTENCE behind it.
+    /// A whole READ of a file, and NEXT SENTENCE after it.
     WithSentence(u32),
     Open { file: u32, into: Option<Place> },
 }
@@ -33,7 +33,7 @@ pub enum ReadHead {
 /// PERFORM up to what it holds, if it holds statements.
 #[derive(Debug, Drop)]
 pub enum PerformHead {
-    /// A whole statement, and whether a NOT was read behind it that isn't its own.
+    /// A whole statement, and whether a NOT was read after it that isn't its own.
     Whole(Stmt, bool),
     Inline(Control),
 }

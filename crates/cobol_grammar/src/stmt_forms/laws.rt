@@ -13,7 +13,7 @@ pub trait Made<Side, Known> {
     ghost parts: { Parts Side Known };
 }
 
-/// Whatever lawful forms they stand on, statements, nested to any level, and the whole division
+/// Whatever lawful forms they are built on, statements, nested to any level, and the whole division
 /// read what they spell and nothing else, and stop at the first token up to which the tokens aren't
 /// cut.
 pub fn statements_are_read<Side, Known, M: Made<Side, Known>>()

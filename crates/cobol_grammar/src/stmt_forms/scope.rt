@@ -1,4 +1,4 @@
-//! Where a statement stands.
+//! What surrounds a statement.
 
 /// What holds a statement, which decides what some jumps mean.
 #[derive(Clone, Copy, Debug, PartialEq, Eq)]

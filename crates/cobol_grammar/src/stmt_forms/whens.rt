@@ -7,8 +7,8 @@ use cob_tree::When;
 #[derive(Debug, Drop)]
 pub struct Whens {
     pub whens: Items<When>,
-    /// WHEN OTHER was read, and its statements are next.
+    /// Whether WHEN OTHER was read, so that its statements are next.
     pub other: bool,
-    /// A NOT was read behind them that isn't theirs.
+    /// Whether a NOT was read after them that isn't theirs.
     pub pending_not: bool,
 }

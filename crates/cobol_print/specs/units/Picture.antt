@@ -11,13 +11,15 @@ run_text symbol count =
     symbol ∷ (if count == 1 then []
     else left_parenthesis ∷ decimal count ++ right_parenthesis ∷ [])
 
+-- a run of 9, or nothing where there are none
 abbrev pub some_run : (count : ℕ) → List ℕ
 some_run count = if count == 0 then [] else run_text (byte "9") count
 
--- the digits behind the decimal point
+-- the digits after the decimal point, with the V before them
 abbrev pub part_text : (count : ℕ) → List ℕ
 part_text count = if count == 0 then [] else byte "V" ∷ run_text (byte "9") count
 
+-- a picture
 abbrev pub picture_text : Picture → List ℕ
 picture_text (Number signed whole part) =
     (if signed then codes "S" else []) ++ some_run whole ++ part_text part

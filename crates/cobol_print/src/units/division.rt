@@ -39,6 +39,7 @@ fn add_select(tokens: &mut Tokens, file: &FileEntry) -> Result<(), NoMemory>
 }
 
 impl Units {
+    /// Adds the line PROGRAM-ID with the program's name.
     pub fn program_id(&mut self, name: Word) -> Result<(), NoMemory>
         ensures { OnOk result (self.new ≡ self.old ++ program_id name ∷ []) }
     {
@@ -102,8 +103,8 @@ impl Units {
         self.fd(program, file)
     }
 
-    /// Adds the headers that stand before an entry of this file, or of none, behind one of that
-    /// file, or of none, or behind no entry.
+    /// Adds the headers between two entries: before one of this file, or of no file, and after one
+    /// of that file, or of no file, or after no entry.
     fn headers_between(
         &mut self,
         program: &Program,
@@ -224,6 +225,7 @@ impl Units {
         Ok(())
     }
 
+    /// Adds the procedure division.
     pub fn procedure(&mut self, alloc: Global, program: &Program) -> Result<(), NoMemory>
         ensures { OnOk result
             (self.new ≡ self.old ++ procedure_units program.now program.now.paragraphs) }

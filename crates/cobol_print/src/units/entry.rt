@@ -181,6 +181,7 @@ fn add_clauses(
 }
 
 impl Units {
+    /// Adds the line of a data description entry.
     pub fn entry(&mut self, alloc: Global, program: &Program, entry: &Entry) -> Result<(), NoMemory>
         ensures { OnOk result (self.new ≡ self.old ++ entry_unit program.now entry.now ∷ []) }
     {

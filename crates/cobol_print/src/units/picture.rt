@@ -8,6 +8,7 @@ use cob_base::{NoMemory, Text};
 use cob_tree::Picture;
 use std::alloc::Global;
 
+/// Adds a number in decimal digits.
 pub fn add_decimal(alloc: Global, text: &mut Text, number: u32) -> Result<(), NoMemory>
     ensures { OnOk result (text.new ≡ text.old ++ decimal number) }
 {
@@ -48,7 +49,7 @@ fn add_part(alloc: Global, text: &mut Text, part: u8) -> Result<(), NoMemory>
     add_run(alloc, text, b'9', u32::from(part))
 }
 
-/// A picture, with counts.
+/// The text of a picture, with counts.
 pub fn picture_text(alloc: Global, picture: Picture) -> Result<Text, NoMemory>
     ensures { Makes (picture_text picture) result }
 {

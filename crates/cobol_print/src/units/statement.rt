@@ -1,4 +1,4 @@
-//! Statements as units: a line each, and the lines of what they hold.
+//! Statements as units: a line for each, and the lines of what it holds.
 
 ghost use Rattle.std.specs.Prelude.{◌≡◌, ◌++◌, ◌∷◌, [], false, true, map, Some, OnOk, codes};
 ghost use Rattle.cob_tree.specs.declared.stmt.Stmt.{out-Stmt};
@@ -27,7 +27,7 @@ fn has_arms(arms: &Arms) -> bool
 }
 
 impl Units {
-    /// Adds the line of a phrase, with NOT where it is said.
+    /// Adds the line of a phrase, with NOT where `not` is true.
     fn phrase(&mut self, phrase: ArmPhrase, not: bool, column: usize) -> Result<(), NoMemory>
         ensures { OnOk result
             (self.new ≡ self.old ++ unit_at column (not_tokens not ++ phrase_tokens phrase) ∷ []) }
@@ -71,7 +71,7 @@ impl Units {
         self.push(column, tokens)
     }
 
-    /// Adds the line that ends an arithmetic statement, where it is asked for.
+    /// Adds the line that ends an arithmetic statement, where `asked` is true.
     fn end_arithmetic(&mut self, asked: bool, calc: &Calc, column: usize) -> Result<(), NoMemory>
         ensures { OnOk result
             (self.new ≡ self.old ++ end_lines asked (end_word calc.now) column) }
@@ -109,7 +109,7 @@ impl Units {
         self.push(column, tokens)
     }
 
-    /// Adds a statement from this column on, which is closed by its END word where it can be.
+    /// Adds a statement at this column, closed by its END word where it has one.
     #[cycle(stmt)]
     fn stmt(
         &mut self,

@@ -1,4 +1,4 @@
-//! Units, one behind the other.
+//! Lists of units.
 
 ghost use Rattle.std.specs.Prelude.{◌≡◌, ◌++◌, [], ◌∷◌, true, min, ◌+◌, OnOk, MatchOption};
 ghost use Rattle.cobol_lex.specs.declared.token.TokenKind.TheVariants as kind;
@@ -11,8 +11,8 @@ use std::alloc::Global;
 use std::marker::Model;
 use unparser::Tokens;
 
-/// What is printed as one line, where it is short enough: tokens that stand from this column on,
-/// which counts from 1.
+/// What is printed as one line, where it is short enough: tokens that begin at this column, which
+/// counts from 1.
 #[derive(Debug, Drop)]
 pub struct PrintUnit {
     pub column: usize,
@@ -35,7 +35,7 @@ impl Model for Units {
     ghost view = { λ units. units.list };
 }
 
-/// The column of what a line at this one holds: four further right, at 32 at most.
+/// The column of what a line at this one holds: four further right, at most 32.
 pub fn deeper(column: usize) -> usize
     ensures { result ≡ deeper column }
 {
@@ -43,6 +43,7 @@ pub fn deeper(column: usize) -> usize
 }
 
 impl Units {
+    /// No units.
     pub fn new(alloc: Global) -> Units
         ensures { result ≡ [] }
     {
@@ -52,6 +53,7 @@ impl Units {
         }
     }
 
+    /// The list of the units.
     pub fn into_items(self) -> Items<PrintUnit>
         ensures { result ≡ self }
     {
@@ -59,13 +61,14 @@ impl Units {
         list
     }
 
-    /// No tokens, to be filled for a unit.
+    /// An empty list of tokens, to be filled for a unit.
     pub fn tokens(&self) -> Tokens
         ensures { result ≡ [] }
     {
         Tokens::new(self.alloc)
     }
 
+    /// Adds a unit of these tokens at this column.
     pub fn push(&mut self, column: usize, tokens: Tokens) -> Result<(), NoMemory>
         ensures { OnOk result (self.new ≡ self.old ++ unit_at column tokens ∷ []) }
     {
@@ -96,7 +99,7 @@ impl Units {
         Ok(())
     }
 
-    /// Puts a period behind the last unit.
+    /// Adds a period to the last unit.
     pub fn end(&mut self) -> Result<(), NoMemory>
         ensures { OnOk result (self.new ≡ ended self.old) }
     {
@@ -155,7 +158,7 @@ impl Units {
         self.push(8, tokens)
     }
 
-    /// Adds a header, and a name behind it with a period of its own.
+    /// Adds a header, and after it a name with a period of its own.
     pub fn naming_header(&mut self, text: &[u8], name: Word) -> Result<(), NoMemory>
         requires { is_reserved_shape text.now ≡ true }
         ensures { OnOk result (self.new ≡ self.old ++ naming_header text.now name ∷ []) }

@@ -21,8 +21,8 @@ use std::alloc::Global;
 use symbol_tables::data_names::NameTable;
 use symbol_tables::procedure_names::ProcedureTable;
 
-/// Reads the parts of the statements of a program with these names, entries, which `records` has,
-/// and procedures.
+/// Reads the parts of the statements of a program with these names, procedures and entries, which
+/// `records` holds.
 #[derive(Drop)]
 pub struct PartReader<'a> {
     pub alloc: Global,

@@ -17,7 +17,7 @@ fn picture_kind(picture: Option<Picture>) -> ItemKind
     }
 }
 
-/// What an entry holds, with those behind it.
+/// What an entry holds; those after it show whether it is a group.
 pub fn kind_of(entry: &Entry, behind: &[Entry]) -> ItemKind
     ensures { result ≡ names.kind_of entry.now behind.now }
 {
@@ -30,6 +30,7 @@ pub fn kind_of(entry: &Entry, behind: &[Entry]) -> ItemKind
     }
 }
 
+/// The kind of value that an item of this kind has.
 pub fn item_kind(kind: ItemKind) -> ValueKind
     ensures { result ≡ faults.item_kind kind }
 {

@@ -142,7 +142,7 @@ fn next_name(cursor: &Cursor<'_>) -> Option<Word>
     }
 }
 
-/// Takes the name that a paragraph or section is given, with its position.
+/// Takes the name in the header of a paragraph or section, with its position.
 #[tactic(auto, unfolding(cobol_grammar::specs::Name::header_name), using(crate::proofs::operand_uses_lemmas::HeaderLemmas::names_read))]
 pub fn header_name(cursor: &mut Cursor<'_>) -> Result<(Word, Position), Unread>
     ensures { Reads (words.header_name.reads cursor.old) result cursor.new }

@@ -24,7 +24,7 @@ fn bare_place(alloc: Global) -> Place
     }
 }
 
-/// An operand as it stands in the tree.
+/// An operand as the tree has it.
 pub fn operand_of(what: ParsedExpr) -> Operand
     ensures { result ≡ uses.operand_of what }
 {
@@ -36,7 +36,7 @@ pub fn operand_of(what: ParsedExpr) -> Operand
     }
 }
 
-/// A reference as it stands in the tree.
+/// A reference as the tree has it.
 pub fn place_of(alloc: Global, what: ParsedExpr) -> Place
     ensures { result ≡ uses.place_of what }
 {
@@ -118,7 +118,7 @@ fn moved_fault(
     }
 }
 
-/// The fault of a move.
+/// The fault of a MOVE, where it has one.
 pub fn move_fault(from: &Side, to: &Side) -> Option<Note>
     ensures { result ≡ uses.move_fault from.now to.now }
 {
@@ -136,7 +136,7 @@ pub fn known_of(side: &Side) -> SubjectKind
     }
 }
 
-/// The fault of a move of a file's first record.
+/// The fault of a move of a file's first record, where it has one.
 pub fn into_fault(records: &Records<'_>, file: Option<u32>, to: &Side) -> Option<Note>
     ensures { result ≡ uses.into_fault records.now file to.now }
 {
@@ -185,7 +185,7 @@ fn compared_fault(
     }
 }
 
-/// The fault of a subject and what it is compared with.
+/// The fault of comparing a subject of EVALUATE with this, where there is one.
 #[tactic(auto, unfolding(cobol_grammar::specs::Use::subject_fault))]
 pub fn subject_fault(known: &SubjectKind, side: &Side) -> Option<Note>
     ensures { result ≡ uses.subject_fault known.now side.now }

@@ -1,4 +1,4 @@
-//! What a name of a procedure stands for.
+//! The paragraphs that a name of a procedure stands for.
 
 ghost use Rattle.std.specs.Prelude.{◌≡◌, Some, None, if◌then◌else◌};
 ghost use Rattle.std.specs.Str.{bytes_eq};
@@ -13,7 +13,7 @@ fn is_spelled(word: &Word, name: &[u8]) -> bool
     word.as_slice() == name
 }
 
-// The word of these bytes, if they are one in capitals.
+// The word of these bytes, where they are one in capitals.
 fn word_of(name: &[u8]) -> Option<Word>
     ensures { result ≡ (if words.is_capital_word name.now then Some name.now else None) }
 {
@@ -29,7 +29,7 @@ fn word_of(name: &[u8]) -> Option<Word>
     }
 }
 
-/// The first and the last paragraph of what has this name.
+/// The first and the last paragraph of the procedure with this name; none where there is none.
 pub fn procedure_of(table: &ProcedureTable, name: &[u8]) -> Option<(u32, u32)>
     ensures { result ≡ words.procedure_of table.now name.now }
 {

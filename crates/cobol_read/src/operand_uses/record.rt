@@ -16,7 +16,7 @@ use std::marker::Model;
 
 /// The entries of a program, with what the first record of each file holds.
 ///
-/// A contract sees them as the entries.
+/// Contracts see the entries alone.
 #[derive(Drop)]
 pub struct Records<'a> {
     entries: &'a [Entry],
@@ -42,6 +42,7 @@ impl<'a> Model for Records<'a> {
 }
 
 impl<'a> Records<'a> {
+    /// The records of these entries.
     pub fn of(alloc: Global, entries: &'a [Entry]) -> Result<Records<'a>, NoMemory>
         ensures { Makes entries.now result }
     {
@@ -76,7 +77,7 @@ fn is_of_file(file: u32, other: Option<u32>) -> bool
     }
 }
 
-// A search from the front.
+// The kind that a search from the front finds.
 fn record_kind(entries: &[Entry], file: u32) -> ValueKind
     ensures { result ≡ uses.record_kind entries.now file }
 {
@@ -90,8 +91,8 @@ fn record_kind(entries: &[Entry], file: u32) -> ValueKind
     ValueKind::Unknown
 }
 
-// As many kinds as the greatest number of a file is followed by; any other number would do, as what
-// the table lacks is looked for.
+// How many kinds the table has: one more than the greatest number of a file. Any other number would
+// do, since what the table lacks is searched for.
 fn count_of(entries: &[Entry]) -> usize {
     let mut count = 0usize;
     for entry in entries {
@@ -100,7 +101,7 @@ fn count_of(entries: &[Entry]) -> usize {
     count
 }
 
-// Sets the kind of the file of an entry before those behind it.
+// Sets the kind of an entry's file; those after it show whether it is a group.
 fn put_kind(kinds: &mut [ValueKind], entry: &Entry, behind: &[Entry])
     ensures length { length kinds.new ≡ length kinds.old }
     ensures kinds { (file : ℕ) → (other : ValueKind) → file < length kinds.old →
@@ -117,7 +118,7 @@ fn put_kind(kinds: &mut [ValueKind], entry: &Entry, behind: &[Entry])
     }
 }
 
-// The last entry comes first, so that the first record of a file is what stays.
+// The entries are taken from the last to the first, so that a file's first record stays.
 fn kinds_of(alloc: Global, entries: &[Entry]) -> Result<Vec<ValueKind>, NoMemory>
     ensures { IfOk result (λ kinds. (file : ℕ) → file < length kinds.items →
         slice_get kinds.items file ≡ Some (uses.record_kind entries.now file)) }

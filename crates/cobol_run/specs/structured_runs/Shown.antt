@@ -35,11 +35,12 @@ BeginsNested program files sink =
     (units : ℕ) × (bytes more : List ℕ)
     × (displayed (structural_run program files units).trace ≡ bytes ++ more) × Gains bytes sink
 
+-- the sink gained what the nested statements display, as far as the run came
 abbrev pub ShowsNested : Program → Files → SinkCall → Ran → Type 0
 ShowsNested program files sink (ran.Ended how) = EndsNested program files sink how
 ShowsNested program files sink _ = BeginsNested program files sink
 
--- whatever steps its run makes
+-- a run of a structured program shows what its nested statements do, whatever steps it makes
 abbrev pub RunsShowNestedStatements : Type 0
 RunsShowNestedStatements =
     (program : Program) → IsStructured (control_of program) → (files : Files) (steps : ℕ)
@@ -59,11 +60,13 @@ EndsNestedOver program files sink gone devices how =
     × ((name : List ℕ) → is_among gone name ≡ false →
     SameShelf (device_found name devices) (shelf_found name left))
 
+-- the same, where the devices tell their files
 abbrev pub ShowsNestedOver : Program → Files → SinkCall → List (List ℕ) → List Seen → Ran → Type 0
 ShowsNestedOver program files sink gone devices (ran.Ended how) =
     EndsNestedOver program files sink gone devices how
 ShowsNestedOver program files sink gone devices _ = BeginsNested program files sink
 
+-- a run of a structured program over files shows what its nested statements show
 abbrev pub RunsOverFilesShowNestedStatements : Type 0
 RunsOverFilesShowNestedStatements =
     (program : Program) → IsStructured (control_of program) → (files : Files) (steps : ℕ)

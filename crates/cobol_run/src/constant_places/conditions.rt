@@ -7,6 +7,7 @@ use cob_base::NoMemory;
 use cob_store::{Area, Store};
 use cob_tree::{Cond, Control, Subject, Test};
 
+/// Keeps the spots of the places in a condition.
 #[cycle(know_cond)]
 pub fn know_cond(areas: &mut [Area], store: &Store, cond: &Cond) -> Result<(), NoMemory>
     ensures { areas.new ≡ areas.old }
@@ -31,6 +32,7 @@ pub fn know_cond(areas: &mut [Area], store: &Store, cond: &Cond) -> Result<(), N
     }
 }
 
+/// Keeps the spots of the places in the control of a PERFORM.
 pub fn know_control(areas: &mut [Area], store: &Store, control: &Control) -> Result<(), NoMemory>
     ensures { areas.new ≡ areas.old }
 {
@@ -53,6 +55,7 @@ pub fn know_control(areas: &mut [Area], store: &Store, control: &Control) -> Res
     }
 }
 
+/// Keeps the spots of the places in the subject of EVALUATE.
 pub fn know_subject(areas: &mut [Area], store: &Store, subject: &Subject) -> Result<(), NoMemory>
     ensures { areas.new ≡ areas.old }
 {
@@ -79,6 +82,7 @@ fn know_test(areas: &mut [Area], store: &Store, test: &Test) -> Result<(), NoMem
     }
 }
 
+/// Keeps the spots of the places in tests of WHEN.
 pub fn know_tests(areas: &mut [Area], store: &Store, tests: &[Test]) -> Result<(), NoMemory>
     ensures { areas.new ≡ areas.old }
 {

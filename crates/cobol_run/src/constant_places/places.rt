@@ -6,7 +6,7 @@ use cob_base::NoMemory;
 use cob_store::{Area, Store, know};
 use cob_tree::{Expr, Operand, Place, Sub, Window};
 
-/// A place, and those within it.
+/// Keeps the spots of a place, and of those within it.
 #[cycle(know_place)]
 pub fn know_place(areas: &mut [Area], store: &Store, place: &Place) -> Result<(), NoMemory>
     ensures { areas.new ≡ areas.old }
@@ -50,6 +50,7 @@ fn know_window(areas: &mut [Area], store: &Store, window: &Window) -> Result<(),
     }
 }
 
+/// Keeps the spots of the places in an operand.
 #[cycle(know_place)]
 pub fn know_operand(areas: &mut [Area], store: &Store, operand: &Operand) -> Result<(), NoMemory>
     ensures { areas.new ≡ areas.old }
@@ -62,6 +63,7 @@ pub fn know_operand(areas: &mut [Area], store: &Store, operand: &Operand) -> Res
     }
 }
 
+/// Keeps the spots of the places in an expression.
 #[cycle(know_place)]
 pub fn know_expr(areas: &mut [Area], store: &Store, expr: &Expr) -> Result<(), NoMemory>
     ensures { areas.new ≡ areas.old }
@@ -76,6 +78,7 @@ pub fn know_expr(areas: &mut [Area], store: &Store, expr: &Expr) -> Result<(), N
     }
 }
 
+/// Keeps the spots of a place, where there is one, and of those within it.
 pub fn know_any(areas: &mut [Area], store: &Store, place: &Option<Place>) -> Result<(), NoMemory>
     ensures { areas.new ≡ areas.old }
 {
@@ -85,6 +88,7 @@ pub fn know_any(areas: &mut [Area], store: &Store, place: &Option<Place>) -> Res
     }
 }
 
+/// Keeps the spots of places, and of those within them.
 pub fn know_places(areas: &mut [Area], store: &Store, places: &[Place]) -> Result<(), NoMemory>
     ensures { areas.new ≡ areas.old }
 {
@@ -94,6 +98,7 @@ pub fn know_places(areas: &mut [Area], store: &Store, places: &[Place]) -> Resul
     Ok(())
 }
 
+/// Keeps the spots of the places in operands.
 pub fn know_operands(
     areas: &mut [Area],
     store: &Store,

@@ -1,4 +1,4 @@
-//! Places in statements, those of nested ones among them.
+//! Places in statements, nested ones included.
 
 ghost use Rattle.std.specs.Prelude.{◌≡◌};
 
@@ -79,7 +79,7 @@ fn know_stmt(areas: &mut [Area], store: &Store, stmt: &Stmt) -> Result<(), NoMem
     }
 }
 
-// A statement that chooses, repeats or goes elsewhere.
+// Keeps the spots of the places in a statement that chooses, repeats or jumps.
 #[cycle(know_stmt)]
 fn know_branch(areas: &mut [Area], store: &Store, stmt: &Stmt) -> Result<(), NoMemory>
     ensures { areas.new ≡ areas.old }
@@ -112,7 +112,7 @@ fn know_branch(areas: &mut [Area], store: &Store, stmt: &Stmt) -> Result<(), NoM
     }
 }
 
-/// The places in statements.
+/// Keeps the spots of the places in statements.
 #[cycle(know_stmt)]
 pub fn know_stmts(areas: &mut [Area], store: &Store, stmts: &[Stmt]) -> Result<(), NoMemory>
     ensures { areas.new ≡ areas.old }

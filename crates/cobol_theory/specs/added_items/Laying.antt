@@ -1,4 +1,4 @@
--- Items of level 01 behind a program's own, which name no other item.
+-- Items of level 01 after a program's own, which name no other item.
 use Rattle.std.specs.Prelude.{ℕ, ◌+◌, nat_le, Bool, true, ◌&&◌, not, is_some, ◌==◌, List, [], ◌∷◌, ◌++◌, length, map}
 use Rattle.cob_tree.specs.declared.entry.Entry.{Entry}
 use Rattle.cob_store.specs.declared.area.Area.{Area}
@@ -14,6 +14,7 @@ stands_alone entry =
     entry.level == 1 && not (is_some entry.file) && not (is_some entry.redefines)
     && not (is_some entry.occurs) && is_some entry.picture
 
+-- each of these items stands alone
 abbrev pub stand_alone : List Entry → Bool
 stand_alone entries = all (map stands_alone entries)
 
@@ -22,19 +23,21 @@ abbrev pub begins_with_item : List Entry → Bool
 begins_with_item [] = true
 begins_with_item (entry ∷ entries) = not (is_condition entry)
 
--- no level is 0
+-- each entry has a level: none is 0
 abbrev pub have_levels : List Entry → Bool
 have_levels entries = all (map (λ entry. nat_le 1 entry.level) entries)
 
+-- how many bytes an item has that stands alone
 abbrev pub size_alone : Entry → ℕ
 size_alone entry = size_by entry.picture entry.sign 0
 
--- each in a root of its own, the first of which has this number
+-- where these items lie: each in a root of its own, the first of which has this number
 abbrev pub areas_alone : ℕ → List Entry → List Area
 areas_alone root [] = []
 areas_alone root (entry ∷ entries) =
     area_of entry (size_alone entry) root 0 [] ∷ areas_alone (root + 1) entries
 
+-- where the items of a program lie, and after them those of these entries
 abbrev pub laid_behind : Areas → List Entry → Areas
 laid_behind areas entries = record {
   items = areas.items ++ areas_alone (length areas.roots) entries;

@@ -17,7 +17,7 @@ module _ (declared : Declared) where
   abbrev pub has_record : ℕ → Bool
   has_record file = nat_lt (record_entry declared file) items
 
-  -- a statement itself; what stands in its arms isn't looked at
+  -- the statement itself names the program's own items; what is in its arms isn't looked at
   abbrev pub stmt_own : Stmt → Bool
   stmt_own stmt =
       elim (out-Stmt stmt) [
@@ -34,6 +34,7 @@ module _ (declared : Declared) where
         | _ ↦ true
       ]
 
+  -- a chooser names the program's own items, and a file with a record
   abbrev pub chooser_own : Chooser → Bool
   chooser_own (Evaluate subject tests has_other) =
       subject_within items subject && whens_within items tests

@@ -11,23 +11,29 @@ use Rattle.cob_store.specs.declared.area.Form.TheVariants as forms
 use Rattle.cob_store.specs.Number.{number_bytes}
 use Rattle.cob_store.specs.Store.{Roots}
 
--- the item, as a place, an operand and an expression
+-- the item as a place
 abbrev pub cell_place : ℕ → Place
 cell_place item = roll-Place (record { item = item; of = []; subs = []; window = None })
 
+-- the item as an operand
 abbrev pub cell_operand : ℕ → Operand
 cell_operand item = roll-Operand (Operand-F.Place (cell_place item))
 
+-- a numeric literal as an operand
 abbrev pub number_operand : Number → Operand
 number_operand number = roll-Operand (Operand-F.Number number)
 
+-- an operand as an expression
 abbrev pub operand_expr : Operand → Expr
 operand_expr operand = roll-Expr (Expr-F.Leaf operand)
 
 -- an item of so many digits, with a sign or without, that has this root for itself
 pub record IsCell (areas : List Area) (item root digits : ℕ) (signed : Bool) : Type 0 where
+  -- it has a digit
   pub some : 1 ≤ digits
+  -- and no more than 18
   pub few : digits ≤ 18
+  -- it is all of this root
   pub lies : slice_get areas item ≡ Some (record {
     root = root;
     start = 0;

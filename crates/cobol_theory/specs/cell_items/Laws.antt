@@ -28,8 +28,11 @@ use Rattle.cobol_theory.specs.cell_items.Cell.{cell_place, cell_operand, number_
 
 -- a literal that is worth a whole number of so many digits at most
 pub record IsWhole (number : Number) (worth : Dec) (digits : ℕ) : Type 0 where
+  -- the literal has a value
   pub value : literal_value number ≡ Some worth
+  -- which has no decimal places
   pub whole : worth.scale ≡ 0
+  -- and so many digits at most
   pub fits : unsigned_abs worth.value < 10 ^ digits
 
 -- MOVE of such a literal puts its value into the item's root, and changes no other
@@ -81,7 +84,7 @@ abbrev pub less_in : ℕ → ℤ → ℤ → ℤ
 less_in digits value taken =
     with_sign (value -ℤ taken) (unsigned_abs (value -ℤ taken) % 10 ^ digits)
 
--- and whether there are higher ones
+-- the value has digits in front of so many that an item has
 abbrev pub goes_past : ℕ → ℤ → ℤ → Bool
 goes_past digits value taken = nat_le (10 ^ digits) (unsigned_abs (value -ℤ taken))
 
@@ -98,8 +101,11 @@ HeldNumbersAreLowered =
 
 -- a literal that is worth n
 pub record IsNumbered (digits n : ℕ) (number : Number) : Type 0 where
+  -- what the literal is worth
   pub worth : Dec
+  -- it is a whole number
   pub is : IsWhole number worth digits
+  -- it is n
   pub value : worth.value ≡ pos n
 
 -- literals that are worth n, n + 1 and so on
@@ -108,16 +114,17 @@ AreNumbered digits n [] = Unit {0}
 AreNumbered digits n (number ∷ numbers) =
     IsNumbered digits n number × AreNumbered digits (suc n) numbers
 
--- WHEN with a literal alone
+-- the test of a WHEN with this literal alone
 abbrev pub is_number : Number → Test
 is_number number =
     tests.Value false (operand_expr (number_operand number)) None
 
+-- a WHEN with this literal alone
 abbrev pub number_tests : Number → List Test
 number_tests number = is_number number ∷ []
 
 -- EVALUATE of the item with a WHEN for each of the numbers 1, 2 and so on takes that of its number,
--- and the arm behind the last where it holds a larger one
+-- and the arm after the last where it holds a larger one
 abbrev pub HeldNumbersChoose : Type 0
 HeldNumbersChoose =
     (areas : List Area) (item root digits : ℕ) (signed : Bool) (store : Roots) (held : ℕ)

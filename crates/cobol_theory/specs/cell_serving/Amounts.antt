@@ -21,18 +21,24 @@ pub record IsWholeArea (area : Area) : Type 0 where
   pub signed : Bool
   pub digits : ℕ
   pub sign : Sign
+  -- it is a number without decimal places
   pub form : area.form ≡ forms.Number signed digits 0 sign
+  -- it has no more than 18 digits
   pub few : digits ≤ 18
+  -- it is as long as its digits and sign
   pub size : area.size ≡ bytes_for signed sign digits
 
 -- such an item, or an occurrence of it; a window would make text of it
 pub record IsWholePlace (areas : List Area) (place : Place) : Type 0 where
   pub area : Area
+  -- it has no window
   pub plain : (out-Place place).window ≡ None
+  -- the item lies there
   pub lies : slice_get areas (out-Place place).item ≡ Some area
+  -- it is such an item
   pub whole : IsWholeArea area
 
--- such a place, a whole number, or ZERO
+-- the operand is such a place, a whole number, or ZERO
 abbrev pub IsAmountBy : List Area → Operand-F Expr Operand Place Sub Window → Type 0
 IsAmountBy areas (Operand-F.Place place) = IsWholePlace areas place
 IsAmountBy areas (Operand-F.Number number) = (worth : Dec) × IsWhole number worth 18
@@ -40,14 +46,17 @@ IsAmountBy areas (Operand-F.Text bytes) = ⊥
 IsAmountBy areas (Operand-F.Figure figures.Zero) = Unit {0}
 IsAmountBy areas (Operand-F.Figure _) = ⊥
 
+-- the operand is such a place, a whole number, or ZERO
 abbrev pub IsAmount : List Area → Operand → Type 0
 IsAmount areas operand = IsAmountBy areas (out-Operand operand)
 
--- whatever is stored, such a place is a whole number, and such an operand worth one
+-- such a place is a whole number, whatever is stored
 abbrev pub WholePlacesAreWhole : Type 0
 WholePlacesAreWhole =
     (areas : List Area) (place : Place) → IsWholePlace areas place → IsWholeItem areas place
 
+-- such an operand is worth a whole number of 18 digits at most, or can't be read, whatever is
+-- stored
 abbrev pub AmountsAreWhole : Type 0
 AmountsAreWhole =
     (areas : List Area) (operand : Operand) → IsAmount areas operand → IsWholeAmount areas operand

@@ -1,5 +1,5 @@
 -- The choosers that are written: GO TO DEPENDING becomes EVALUATE beside the numbers of its names,
--- and phrases stand as their arms do.
+-- and phrases are there as their arms are.
 use Rattle.std.specs.Prelude.{ℕ, ◌≡◌, ◌^◌, ◌<◌, ◌≤◌, Bool, List, length, map, Option, Ok, Err, is_some, IsTrue, ◌⊎◌}
 use Rattle.cob_tree.specs.declared.ending.Abend.{Abend}
 use Rattle.cob_tree.specs.declared.number.Number.{Number}
@@ -22,10 +22,11 @@ use Rattle.cobol_theory.specs.cell_items.Laws.{number_tests}
 use Rattle.cobol_theory.specs.cell_serving.Naming.{numbers_from, first_stands, last_stands}
 use Rattle.cobol_theory.specs.cell_serving.Laws.{AreLiterals, ChoosesAlike}
 
+-- a place as an expression
 abbrev pub place_expr : Place → Expr
 place_expr place = operand_expr (roll-Operand (Operand-F.Place place))
 
--- WHEN OTHER stands where the last arm does, and AT END where the first does
+-- WHEN OTHER is there where the last arm is, and AT END where the first is
 abbrev pub written_chooser : (literal : ℕ → Number) → Chooser → List Bool → Chooser
 written_chooser literal (Evaluate subject tests has_other) arms =
     Evaluate subject tests (last_stands arms)
@@ -36,7 +37,7 @@ written_chooser literal (Depending place names) arms =
     Evaluate (subjects.Value (place_expr place)) (map number_tests (numbers_from literal 1 names))
     (last_stands arms)
 
--- whatever is stored, the place is a number item without decimal places, or can't be reached
+-- the place is a number item without decimal places, or can't be reached, whatever is stored
 abbrev pub IsWholeItem : List Area → Place → Type 0
 IsWholeItem areas place =
     (store : Roots) →
@@ -55,13 +56,14 @@ Suits declared (language.Read file into has_end) arms =
 Suits declared (Evaluate subject tests has_other) arms = Unit {0}
 Suits declared (Arith calc into) arms = Unit {0}
 
+-- a chooser that suits its arms, as it is written, takes the same arm
 abbrev pub WrittenChoosersChooseAlike : Type 0
 WrittenChoosersChooseAlike =
     (declared : Declared) (literal : ℕ → Number) (chooser : Chooser) (arms : List Bool) →
     AreLiterals literal → Suits declared chooser arms →
     ChoosesAlike declared chooser (written_chooser literal chooser arms) (length arms)
 
--- for READ no less is enough
+-- a READ suits its arms where, as it is written, it takes the same arms: no less is enough
 abbrev pub AlikeReadsSuit : Type 0
 AlikeReadsSuit =
     (declared : Declared) (literal : ℕ → Number) (file : ℕ) (into : Option Place) (has_end : Bool)

@@ -33,15 +33,17 @@ cell_entry name digits signed = record {
   ranges = [];
 }
 
+-- an item for a cell: its name, how many digits it has, and whether it has a sign
 pub record CellEntry : Type 0 where
   pub name : List ℕ
   pub digits : ℕ
   pub signed : Bool
 
+-- the entries of these items
 abbrev pub entries_of : List CellEntry → List Entry
 entries_of = map (λ cell. cell_entry cell.name cell.digits cell.signed)
 
--- items that stand alone behind so many roots
+-- items that stand alone after so many roots
 abbrev pub added_behind : (roots : ℕ) → List Entry → AddedItems
 added_behind roots entries = record {
   entries = entries;
@@ -59,10 +61,12 @@ abbrev pub AreSized : List CellEntry → Type 0
 AreSized [] = Unit {0}
 AreSized (cell ∷ cells) = (1 ≤ cell.digits) × (cell.digits ≤ 18) × AreSized cells
 
--- each cell that stands has one of these entries, with room for its values, and what changes shares
--- its entry with no other
+-- each cell that has an item has one of these entries, with room for its values, and what changes
+-- shares its entry with no other
 pub record AreEntries (cells : List CellEntry) (table : CellTable) : Type 0 where
+  -- each entry has 1 to 18 digits
   pub sized : AreSized cells
+  -- the cell's item is one of these entries, with its digits and sign
   pub entry : (range : Range) (cell : ℕ) → table.stands range cell ≡ true →
       (name : List ℕ) × (slice_get cells (table.item range cell)
       ≡ Some (record {
@@ -70,8 +74,10 @@ pub record AreEntries (cells : List CellEntry) (table : CellTable) : Type 0 wher
         digits = table.digits range cell;
         signed = table.signed range cell;
       }))
+  -- the largest value of a cell has so few digits
   pub room : (range : Range) (cell : ℕ) → table.stands range cell ≡ true →
       table.most range cell < 10 ^ table.digits range cell
+  -- no other cell has the item of one that changes
   pub apart : (range other : Range) (cell other_cell : ℕ) → table.changes range cell ≡ true →
       table.stands other other_cell ≡ true →
       table.item other other_cell ≡ table.item range cell →
@@ -81,14 +87,19 @@ pub record AreEntries (cells : List CellEntry) (table : CellTable) : Type 0 wher
 abbrev pub WholeLiteralsAreWorth : Type 0
 WholeLiteralsAreWorth = AreLiterals whole_literal
 
--- what is declared with such entries behind a program's own
+-- what is declared with such entries after a program's own
 pub record AreDeclared (program result : Program) (cells : List CellEntry) (table : CellTable)
     : Type 0 where
+  -- the program's own, and the items of its cells
   pub declared : declared_in result ≡ declared_beside (added_to program cells) (declared_in program)
+  -- the items are of no file
   pub apart : AreApart (added_to program cells)
+  -- the table gives each cell its item
   pub items : AreCells (declared_in program) (added_to program cells) table
+  -- each item starts with zero
   pub starts : StartsCarried (declared_in program) (added_to program cells) table
 
+-- a program with such entries after its own declares what it declared, and the items of its cells
 abbrev pub CellEntriesAreDeclared : Type 0
 CellEntriesAreDeclared =
     (program result : Program) (cells : List CellEntry) (table : CellTable) →

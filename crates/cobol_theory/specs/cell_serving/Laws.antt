@@ -22,7 +22,7 @@ use Rattle.cobol_theory.specs.cell_items.Laws.{IsNumbered}
 use Rattle.cobol_theory.specs.cell_serving.Table.{CellTable, AreCells, Carries}
 use Rattle.cobol_theory.specs.cell_serving.Naming.{cell_naming}
 
--- whatever is stored, the operand is worth a whole number of 18 digits at most, or can't be read
+-- the operand is worth a whole number of 18 digits at most, or can't be read, whatever is stored
 abbrev pub IsWholeAmount : List Area → Operand → Type 0
 IsWholeAmount areas operand =
     (store : Roots) →
@@ -49,26 +49,35 @@ ChoosesAlike declared chooser written arms =
 -- the parts of the program name its own items, and the words on cells suit their items
 pub record AreOfKinds (declared : Declared) (added : AddedItems) (table : CellTable)
     (chooser : Chooser → List Bool → Chooser) (kinds : Writable) : Type 0 where
+  -- a statement that may be written names own items
   pub simples : (simple : Simple) → kinds.simples simple ≡ true → IsTrue (stmt_own declared simple)
+  -- a condition that may be written names own items
   pub conds : (cond : Cond) → kinds.conds cond ≡ true →
       IsTrue (cond_within (items declared) cond)
+  -- a chooser that may be written names own items, and as it is written takes the same arm
   pub choosers : (each : Chooser) (arms : List Bool) → kinds.choosers each arms ≡ true →
       IsTrue (chooser_own declared each)
       × ChoosesAlike (declared_beside added declared) each (chooser each arms) (length arms)
+  -- an operand of TIMES that may be written names own items, and is a whole number
   pub amounts : (amount : Amount) → kinds.amounts amount ≡ true →
       IsTrue (operand_within (items declared) amount)
       × IsWholeAmount (declared_beside added declared).areas.items amount
+  -- a cell to which a number may be moved has room for it
   pub sets : (range : Range) (cell value : ℕ) → kinds.sets range cell value ≡ true →
       (table.stands range cell ≡ true) × (table.changes range cell ≡ true)
       × (table.signed range cell ≡ false) × (value ≤ table.most range cell)
+  -- a cell that counts the turns of a TIMES has a sign and 18 digits
   pub counts : (range : Range) (cell : ℕ) → kinds.counts range cell ≡ true →
       (table.stands range cell ≡ true) × (table.changes range cell ≡ true)
       × (table.signed range cell ≡ true) × (table.digits range cell ≡ 18)
+  -- a cell that may be compared has room for the number
   pub compares : (range : Range) (cell value : ℕ) → kinds.compares range cell value ≡ true →
       (table.stands range cell ≡ true) × (table.signed range cell ≡ false)
       × (value ≤ table.most range cell)
+  -- a cell that may be tested for being above zero has an item
   pub aboves : (range : Range) (cell : ℕ) → kinds.aboves range cell ≡ true →
       table.stands range cell ≡ true
+  -- a cell by which may be chosen holds the number of an arm
   pub chooses : (range : Range) (cell arms : ℕ) → kinds.chooses range cell arms ≡ true →
       (table.stands range cell ≡ true) × (table.signed range cell ≡ false)
       × (table.most range cell ≤ arms) × (arms < 10 ^ table.digits range cell)
@@ -79,7 +88,7 @@ AreLiterals literal =
     (digits number : ℕ) → digits ≤ 18 → number < 10 ^ digits →
     IsNumbered digits number (literal number)
 
--- at the start each cell's item holds zero behind what the program itself starts with
+-- at the start each cell's item holds zero after what the program itself starts with
 abbrev pub StartsCarried : Declared → AddedItems → CellTable → Type 0
 StartsCarried declared added table =
     (files : Files) →
@@ -87,6 +96,8 @@ StartsCarried declared added table =
     (record { own = first_memory declared files; cells = λ range cell. 0 })
     (first_memory (declared_beside added declared) files)
 
+-- the parts as they are written do what they did, where the items of the cells carry what the cells
+-- hold
 abbrev pub WrittenPartsServe : Type 0
 WrittenPartsServe =
     (declared : Declared) (added : AddedItems) (table : CellTable) (literal : ℕ → Number)

@@ -15,10 +15,11 @@ use Rattle.cobol_theory.specs.cell_items.Cell.{cell_place, cell_operand, number_
 use Rattle.cobol_theory.specs.cell_items.Laws.{cell_relation, target_of, number_tests}
 use Rattle.cobol_theory.specs.cell_serving.Table.{CellTable}
 
+-- MOVE to the item
 abbrev pub move_to : ℕ → Operand → Stmt
 move_to item from = stmts.Move from (cell_place item ∷ [])
 
--- without arms
+-- SUBTRACT of a number from an item, without arms
 abbrev pub subtract_from : ℕ → Number → Stmt
 subtract_from item number =
     stmts.Arith (calcs.Subtract (number_operand number ∷ [])) (target_of item ∷ []) bare
@@ -28,21 +29,24 @@ abbrev pub numbers_from : (literal : ℕ → Number) → ℕ → ℕ → List Nu
 numbers_from literal first zero = []
 numbers_from literal first (suc more) = literal first ∷ numbers_from literal (suc first) more
 
+-- the first arm is written
 abbrev pub first_stands : List Bool → Bool
 first_stands [] = false
 first_stands (arm ∷ arms) = arm
 
+-- the last arm is written
 abbrev pub last_stands : List Bool → Bool
 last_stands [] = false
 last_stands (arm ∷ []) = arm
 last_stands (arm ∷ arms) = last_stands arms
 
--- one less, where the last arm is WHEN OTHER
+-- how many WHENs a choice has: one less than its arms, where the last arm is WHEN OTHER
 abbrev pub whens_of : Bool → List Bool → ℕ
 whens_of false arms = length arms
 whens_of true [] = 0
 whens_of true (arm ∷ arms) = length arms
 
+-- the last arm is WHEN OTHER, and is written
 abbrev pub other_stands : Bool → List Bool → Bool
 other_stands false arms = false
 other_stands true arms = last_stands arms
@@ -50,9 +54,11 @@ other_stands true arms = last_stands arms
 -- the literal of a number, the first added item, and what becomes of empty arms
 module _ (literal : ℕ → Number) (first : ℕ) (table : CellTable)
     (chooser : Chooser → List Bool → Chooser) (empty : Range → Picker → ℕ → Empty) where
+  -- the item of a cell
   abbrev pub item_of : Range → ℕ → ℕ
   item_of range cell = first + table.item range cell
 
+  -- what the parts are called, with these items for the cells
   abbrev pub cell_naming : Naming
   cell_naming = record {
     nothing = stmts.Continue;

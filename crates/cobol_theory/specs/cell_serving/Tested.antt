@@ -32,19 +32,21 @@ is_whole_form size (forms.Number signed digits part sign) =
 is_whole_form size forms.Group = false
 is_whole_form size forms.Text = false
 
+-- an item lies there that is such a number
 abbrev pub is_whole_area : Option Area → Bool
 is_whole_area None = false
 is_whole_area (Some area) = is_whole_form area.size area.form
 
--- such an item, without a window
+-- the place is such an item, without a window
 abbrev pub is_whole_place : List Area → Place → Bool
 is_whole_place areas place =
     not (is_some (out-Place place).window) && is_whole_area (slice_get areas (out-Place place).item)
 
+-- a numeric literal without decimal places, of at most 18 digits
 abbrev pub is_whole_number : Number → Bool
 is_whole_number number = number.scale == 0 && is_some (digits_value number.digits)
 
--- such an item, a whole number, or ZERO
+-- the operand is such an item, a whole number, or ZERO
 abbrev pub is_amount_by : List Area → Operand-F Expr Operand Place Sub Window → Bool
 is_amount_by areas (Operand-F.Place place) = is_whole_place areas place
 is_amount_by areas (Operand-F.Number number) = is_whole_number number
@@ -52,10 +54,11 @@ is_amount_by areas (Operand-F.Text bytes) = false
 is_amount_by areas (Operand-F.Figure figures.Zero) = true
 is_amount_by areas (Operand-F.Figure _) = false
 
+-- the operand is such an item, a whole number, or ZERO
 abbrev pub is_amount : List Area → Operand → Bool
 is_amount areas operand = is_amount_by areas (out-Operand operand)
 
--- GO TO DEPENDING of such an item; READ whose AT END stands as it did, or whose file has a status
+-- GO TO DEPENDING of such an item; READ whose AT END is there as it was, or whose file has a status
 -- item
 abbrev pub suits : Declared → Chooser → (arms : List Bool) → Bool
 suits declared (Depending place names) arms =
@@ -67,13 +70,15 @@ suits declared (Evaluate subject tests has_other) arms = true
 suits declared (Arith calc into) arms = true
 
 module _ (declared : Declared) (added : AddedItems) (table : CellTable) where
+  -- what is declared with the added items
   abbrev pub wide : Declared
   wide = declared_beside added declared
 
-  -- the cell stands, without a sign
+  -- the cell has an item, without a sign
   abbrev pub is_plain : Range → ℕ → Bool
   is_plain range cell = table.stands range cell && not (table.signed range cell)
 
+  -- which parts may be written, and what the cells are for
   abbrev pub kinds_of : Writable
   kinds_of = record {
     simples = stmt_own declared;

@@ -31,6 +31,7 @@ pub record Memory : Type 0 where
 
 -- ---- events and abends as the theory of control has them
 
+-- the number of an operation on a file
 abbrev pub verb_number : Verb → ℕ
 verb_number Open = 1
 verb_number Read = 2
@@ -43,6 +44,7 @@ abbrev pub event_seen : Event → outcome.Event
 event_seen (Display bytes) = 0 ∷ bytes
 event_seen (Filed verb file bytes status) = verb_number verb ∷ file ∷ status ∷ bytes
 
+-- the number of an abend
 abbrev pub abend_number : Abend → ℕ
 abend_number BadDigits = 0
 abend_number OutOfRange = 1
@@ -54,26 +56,29 @@ events_of operations = map (λ operation. event_seen operation.event) operations
 
 -- ---- what a part does
 
+-- the memory that a statement leaves
 abbrev pub memory_after : Memory → Effect → Memory
 memory_after memory effect =
     record { store = effect.store; world = last_world memory.world effect.operations }
 
--- a statement that acts
+-- what a statement that acts came to, by how it ended
 abbrev pub acted_by : filing.Ended → outcome.Trace → Memory → Tried Memory (Unit {0})
 acted_by filing.Went trace memory = Got trace tt memory
 acted_by (filing.Chose arm) trace memory = Got trace tt memory
 acted_by (filing.Abended abend) trace memory = Ends trace (abend_number abend) memory
 
+-- what a statement that acts shows and leaves
 abbrev pub acted : Memory → Effect → Tried Memory (Unit {0})
 acted memory effect =
     acted_by effect.end (events_of effect.operations) (memory_after memory effect)
 
--- a statement that chooses; its arms count from 1, and the theory's from 0
+-- what a statement that chooses came to; its arms count from 1, and the theory's from 0
 abbrev pub chosen_by : filing.Ended → outcome.Trace → Memory → Tried Memory ℕ
 chosen_by filing.Went trace memory = Got trace 0 memory
 chosen_by (filing.Chose arm) trace memory = Got trace (arm - 1) memory
 chosen_by (filing.Abended abend) trace memory = Ends trace (abend_number abend) memory
 
+-- what a statement that chooses shows, leaves and takes
 abbrev pub chosen : Memory → Effect → Tried Memory ℕ
 chosen memory effect =
     chosen_by effect.end (events_of effect.operations) (memory_after memory effect)
@@ -87,25 +92,30 @@ answered memory (Err abend) = Ends [] (abend_number abend) memory
 abbrev pub turns_in : Dec → ℕ
 turns_in number = if is_positive number.value then unsigned_abs number.value else 0
 
--- the name that DEPENDING ON chooses among so many, from 0; past them where it chooses none
+-- the number of the name that DEPENDING ON chooses among so many, from 0; past them where it
+-- chooses none
 abbrev pub name_in : ℕ → Dec → ℕ
 name_in names number =
     if is_positive number.value && nat_le (unsigned_abs number.value) names
     then unsigned_abs number.value - 1
     else names
 
+-- the arm, from 0
 abbrev pub arm_in : ℕ → Answer ℕ
 arm_in arm = Ok (arm - 1)
 
 module _ (declared : Declared) where
+  -- what a statement does to a memory
   abbrev pub does_to : Stmt → Memory → Tried Memory (Unit {0})
   does_to stmt memory = acted memory (does declared stmt memory.store memory.world)
 
+  -- whether a condition holds in a memory
   abbrev pub tests_in : Cond → Memory → Tried Memory Bool
   tests_in cond memory =
       answered memory (holds cond declared.entries (memory_in declared memory.store))
 
-  -- the arm that is taken, from 0; READ takes AT END as its first, and arithmetic SIZE ERROR
+  -- what a chooser comes to: the arm that is taken, from 0; READ takes AT END as its first, and
+  -- arithmetic SIZE ERROR
   abbrev pub chooses_in : Chooser → Memory → Tried Memory ℕ
   chooses_in (Evaluate subject tests has_other) memory =
       answered memory (and_then (evaluated declared.entries
@@ -119,6 +129,7 @@ module _ (declared : Declared) where
       answered memory (and_then (place_value place (memory_in declared memory.store)) (λ value.
       and_then (valued value) (λ number. Ok (name_in names number))))
 
+  -- how often TIMES of an operand runs its body, in a memory
   abbrev pub counts_in : Operand → Memory → Tried Memory ℕ
   counts_in operand memory =
       answered memory (and_then (operand_value operand (memory_in declared memory.store)) (λ value.

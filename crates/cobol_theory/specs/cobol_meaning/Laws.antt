@@ -13,7 +13,7 @@ abbrev pub StructuredBehavesAsItself : Type 0
 StructuredBehavesAsItself =
     (program : Program) → IsStructured (control_of program) → SameBehaviour program program
 
--- and its run never meets a fault of its flow
+-- the run of a structured program never meets a fault of its flow
 abbrev pub StructuredMeetsNoFault : Type 0
 StructuredMeetsNoFault =
     (program : Program) → IsStructured (control_of program) →

@@ -18,6 +18,7 @@ use Rattle.cobol_theory.specs.cobol_meaning.Acting.{Memory, acting}
 abbrev pub Files : Type 0
 Files = List Shelf
 
+-- the files that a memory leaves
 abbrev pub files_left : Memory → Files
 files_left memory = memory.world.shelves
 
@@ -38,6 +39,7 @@ first_memory declared files =
 abbrev pub doing_in : Declared → Doing Memory
 doing_in declared = alone (acting declared)
 
+-- a state of a source program's run
 abbrev pub State : Type 0
 State = SourceState Memory Files
 
@@ -45,6 +47,7 @@ State = SourceState Memory Files
 abbrev pub step_in : Program → Declared → State → State
 step_in program declared = source_step (doing_in declared) files_left (control_of program)
 
+-- the state before the first step, over these files
 abbrev pub begun_in : Program → Declared → Files → State
 begun_in program declared files =
     source_begun (doing_in declared) files_left (control_of program) (first_memory declared files)

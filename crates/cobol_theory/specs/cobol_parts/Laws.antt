@@ -10,7 +10,8 @@ use Rattle.cobol_theory.specs.cobol_meaning.Acting.{acting}
 use Rattle.program_facts.specs.completion.FlowFacts.{flow_facts_of}
 use Rattle.cobol_theory.specs.cobol_parts.Named.{NamesOwnParagraphs}
 
--- whatever is declared, and whichever ranges return
+-- the parts of a COBOL program do what lowering knows of them, whatever is declared, and whichever
+-- ranges return
 abbrev pub CobolPartsDoWhatIsTold : Type 0
 CobolPartsDoWhatIsTold =
     (declared : Declared) (returning : List (List ℕ)) →

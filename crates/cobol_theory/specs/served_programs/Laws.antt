@@ -29,7 +29,7 @@ ProperProgramsAreServed =
     ProgramIsServed (naming_of program writing) (writable_of program writing)
     (flow_facts_of program.files writing.returning) range (control_of program)
 
--- so what stands in the lowered graphs may be written, where their counters may
+-- what is in the lowered graphs of a proper program may be written, where their counters may
 abbrev pub ProperProgramsHaveServedGraphs : Type 0
 ProperProgramsHaveServedGraphs =
     (program : Program) (writing : Writing) →

@@ -15,6 +15,7 @@ Fits true digits number = unsigned_abs number < 10 ^ digits
 Fits false digits number =
     (unsigned_abs number < 10 ^ digits) × (is_negative number ≡ false)
 
+-- a number for which an item has room is read back from its bytes
 abbrev pub StoredNumbersAreReadBack : Type 0
 StoredNumbersAreReadBack =
     (signed : Bool) (sign : Sign) (digits : ℕ) (number : ℤ) →

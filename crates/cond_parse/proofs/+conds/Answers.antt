@@ -11,10 +11,10 @@ use Rattle.cobol_grammar.specs.cond_forms.Token as tokens
 use Rattle.cobol_grammar.proofs.cond_forms_lemmas.ConditionLaws as claws
 use Rattle.cond_parse.proofs.+conds.Goals as goal
 
-pub condition::content-returns-then-levels-eq0 : goal.condition::content-returns-then-levels-eq0
+pub condition::content-returns-then-context-eq0 : goal.condition::content-returns-then-context-eq0
 unfolding conditions.content
-condition::content-returns-then-levels-eq0 t c =
-    subst (λ n. Reads ((conditions.content c.args.context.names.now n c.args.count).reads c.args.cursor.now) (Err c.too_deep.result) c.args.cursor.now) (sym c.if-levels-eq0.true)
+condition::content-returns-then-context-eq0 t c =
+    subst (λ n. Reads ((conditions.content c.args.context.names.now n c.args.count).reads c.args.cursor.now) (Err c.too_deep.result) c.args.cursor.now) (sym c.if-context-eq0.true)
     (too_deep_err _ Parens (is_mark left_parenthesis) c.args.cursor.now c.sees_mark-begins.result c.too_deep.result c.sees_mark-begins.ensures c.too_deep.ensures)
 
 pub condition::content-returns : goal.condition::content-returns

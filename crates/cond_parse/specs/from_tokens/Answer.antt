@@ -17,6 +17,7 @@ use Rattle.cond_parse.specs.declared.from_tokens.answer.ExprPart.{ExprPart}
 
 -- ---- faults
 
+-- the name fault that was noted, with its line
 abbrev pub noted_fault : Option Note → Option NameFault
 noted_fault None = None
 noted_fault (Some note) = Some (name_fault note.kind note.position.line)
@@ -30,16 +31,18 @@ IsFault form tokens from fault =
 
 -- ---- parts
 
--- a NOT that was read and isn't the condition's own stands behind it
+-- a NOT that was read and isn't the condition's own follows it
 abbrev pub unread : Bool → ℕ
 unread true = 1
 unread false = 0
 
+-- what was found is this condition, up to this input
 abbrev pub IsCond : CondPart → Cond × Bool → Input → Type 0
 IsCond found part behind =
     (found.cond ≡ part.0) × (found.next ≡ behind.taken - unread part.1)
     × (found.fault ≡ noted_fault behind.fault)
 
+-- what was found is this expression, up to this input
 abbrev pub IsExpr : ExprPart → Side → Input → Type 0
 IsExpr found side behind =
     (found.expr ≡ expr_of side.what) × (found.next ≡ behind.taken)

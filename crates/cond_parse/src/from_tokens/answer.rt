@@ -7,21 +7,21 @@ use cob_tree::{Cond, Expr, NameFault};
 use parser_combinators::Note;
 use parser_combinators::faults::name_fault;
 
-/// A condition, and what stands behind it.
+/// A condition, and what comes after it.
 #[derive(Debug, Drop)]
 pub struct CondPart {
     pub cond: Cond,
-    /// How many tokens stand before what is behind it. A NOT that isn't its own stands behind it.
+    /// The number of the token after it, from 0; a NOT that isn't its own counts as after it.
     pub next: usize,
     /// The first name fault in it.
     pub fault: Option<NameFault>,
 }
 
-/// An expression, and what stands behind it.
+/// An expression, and what comes after it.
 #[derive(Debug, Drop)]
 pub struct ExprPart {
     pub expr: Expr,
-    /// How many tokens stand before what is behind it.
+    /// The number of the token after it, from 0.
     pub next: usize,
     /// The first name fault in it.
     pub fault: Option<NameFault>,
@@ -37,7 +37,7 @@ pub fn noted_fault(note: Option<Note>) -> Option<NameFault>
     }
 }
 
-/// How many tokens of those that were read stand behind a condition.
+/// How many of the tokens that were read come after the condition.
 pub fn unread(pending_not: bool) -> usize
     ensures { result ≡ answers.unread pending_not }
 {

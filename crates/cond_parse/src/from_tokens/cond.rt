@@ -19,7 +19,7 @@ use parser_combinators::{Cursor, Unread};
 use std::alloc::Global;
 use symbol_tables::data_names::NameTable;
 
-/// The condition that these tokens spell behind so many of them.
+/// The condition that these tokens spell after the first `from` of them.
 pub fn parse_cond(
     alloc: Global,
     tokens: &[Token],

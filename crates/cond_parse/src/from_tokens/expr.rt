@@ -20,7 +20,7 @@ use parser_combinators::{Cursor, Unread};
 use std::alloc::Global;
 use symbol_tables::data_names::NameTable;
 
-/// The expression that these tokens spell behind so many of them.
+/// The expression that these tokens spell after the first `from` of them.
 pub fn parse_expr(
     alloc: Global,
     tokens: &[Token],

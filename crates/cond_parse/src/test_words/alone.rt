@@ -1,7 +1,7 @@
-//! What a side is that no test follows.
+//! What a side without a test after it is.
 //!
-//! What isn't used is let go by `drop`, and no `?` stands where a tree is alive: a tree that goes
-//! by itself is checked with the drops of all that may be in it.
+//! What isn't used is dropped by `drop`, and there is no `?` while a tree is alive: an implicit
+//! drop is checked with the drops of all types that may be in the tree.
 
 ghost use Rattle.std.specs.Prelude.{◌≡◌, None, Some};
 ghost use Rattle.cob_base.specs.Answers.{Makes};
@@ -80,7 +80,7 @@ fn carried_part(
     }
 }
 
-/// A relation with the left side and the sign that were set.
+/// A relation with the left side and the sign of an abbreviation.
 #[tactic(auto, unfolding(cobol_grammar::specs::cond_forms::Alone::carried))]
 fn carried(
     alloc: Global,
@@ -295,7 +295,7 @@ fn part_by_shape(
     }
 }
 
-/// What an expression is that no test follows.
+/// What an expression without a test after it is.
 #[tactic(auto, unfolding(cobol_grammar::specs::cond_forms::Alone::alone_part))]
 pub fn alone_part(
     alloc: Global,

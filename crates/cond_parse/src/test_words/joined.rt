@@ -72,7 +72,7 @@ fn whole_of(alloc: Global, before: Option<Cond>, cond: Cond) -> Result<Cond, NoM
     }
 }
 
-/// With one more part behind AND.
+/// A condition with one more part after AND.
 pub fn and_joined(
     alloc: Global,
     before: Option<Cond>,
@@ -100,7 +100,7 @@ pub fn and_joined(
     }
 }
 
-/// With one more part behind OR.
+/// A condition with one more part after OR.
 pub fn or_joined(
     alloc: Global,
     before: Option<Cond>,
@@ -121,7 +121,7 @@ pub fn or_joined(
     }
 }
 
-/// The whole of the parts.
+/// The whole condition of the parts.
 pub fn joined_whole(alloc: Global, state: Joined) -> Result<SimpleCond, NoMemory>
     ensures { Makes (conditions.joined_whole state) result }
 {
@@ -141,7 +141,7 @@ pub fn joined_whole(alloc: Global, state: Joined) -> Result<SimpleCond, NoMemory
     }
 }
 
-/// Takes the parenthesis behind a condition.
+/// Takes the parenthesis after a condition.
 #[tactic(auto, unfolding(cobol_grammar::specs::cond_forms::Condition::close_cond))]
 pub fn close_cond(cursor: &mut Cursor<'_>, part: SimpleCond) -> Result<Read, Unread>
     ensures { Reads ((conditions.close_cond part).reads cursor.old) result cursor.new }
@@ -166,7 +166,7 @@ pub fn close_cond(cursor: &mut Cursor<'_>, part: SimpleCond) -> Result<Read, Unr
     }
 }
 
-/// Takes the parenthesis behind an expression.
+/// Takes the parenthesis after an expression.
 #[tactic(auto, unfolding(cobol_grammar::specs::cond_forms::Condition::close_side))]
 pub fn close_side(
     cursor: &mut Cursor<'_>,

@@ -89,7 +89,7 @@ fn other_rel(cursor: &mut Cursor<'_>, negated: bool) -> Result<Rel, Unread>
     }
 }
 
-/// Reads a relation sign, behind NOT or not.
+/// Reads a relation sign, which comes after NOT where `negated` says so.
 #[tactic(auto, unfolding(cobol_grammar::specs::cond_forms::Relation::rel))]
 pub fn rel(cursor: &mut Cursor<'_>, negated: bool) -> Result<Rel, Unread>
     ensures { Reads ((relations.rel negated).reads cursor.old) result cursor.new }

@@ -1,4 +1,4 @@
-//! Tests behind a side in which no other side stands.
+//! Tests of a side that have no second side.
 
 ghost use Rattle.std.specs.Prelude.{◌≡◌};
 ghost use Rattle.parser_combinators.specs.Reading.{Reads};
@@ -92,7 +92,7 @@ fn class_test(
     }
 }
 
-/// What no test follows.
+/// A side that no test follows.
 #[tactic(auto, unfolding(cobol_grammar::specs::cond_forms::Test::untested))]
 fn untested(cursor: &Cursor<'_>, end: Option<bool>, left: Side, count: u32) -> Result<Read, Unread>
     ensures { Reads ((tests.untested end left count).reads cursor.now) result cursor.now }
@@ -110,7 +110,7 @@ fn untested(cursor: &Cursor<'_>, end: Option<bool>, left: Side, count: u32) -> R
     }
 }
 
-/// Reads the class test of a reference, or what no test follows.
+/// Reads the class test of a reference, or takes the side as one that no test follows.
 #[tactic(auto, unfolding(cobol_grammar::specs::cond_forms::Test::class_or))]
 pub fn class_or(
     cursor: &mut Cursor<'_>,

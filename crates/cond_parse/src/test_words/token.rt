@@ -28,7 +28,7 @@ fn at_rel_word(cursor: &Cursor<'_>) -> bool
     cursor.sees(b"EQUAL") || cursor.sees(b"GREATER") || cursor.sees(b"LESS")
 }
 
-/// Whether a relation sign is next before which NOT may stand.
+/// Whether a relation sign that NOT may precede is next.
 #[tactic(auto, unfolding(cobol_grammar::specs::cond_forms::Token::begins_plain_rel))]
 pub fn at_plain_rel(cursor: &Cursor<'_>) -> bool
     ensures { result ≡ form.is_next tokens.begins_plain_rel cursor.now }
@@ -51,7 +51,7 @@ pub fn at_rel(cursor: &Cursor<'_>) -> bool
     }
 }
 
-/// Whether a relation sign is next, behind NOT or not.
+/// Whether a relation sign is next that may come after NOT, where `negated` says so.
 #[tactic(auto, unfolding(cobol_grammar::specs::cond_forms::Token::begins_rel_behind))]
 pub fn at_rel_behind(cursor: &Cursor<'_>, negated: bool) -> bool
     ensures { result ≡ form.is_next (tokens.begins_rel_behind negated) cursor.now }
@@ -63,7 +63,7 @@ pub fn at_rel_behind(cursor: &Cursor<'_>, negated: bool) -> bool
     }
 }
 
-/// Takes a relation sign that is no word.
+/// Takes a relation sign that isn't a word.
 pub fn rel_token(cursor: &mut Cursor<'_>) -> Result<Rel, Unread>
     ensures { Reads ((form.one (λ position kind. tokens.rel_of kind)).reads cursor.old)
         result cursor.new }

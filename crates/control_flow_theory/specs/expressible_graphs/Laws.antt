@@ -19,7 +19,7 @@ CountersAreServed kinds order graphs = (range : Range) → In range order → (c
     (kinds.counts range cell ≡ true) × (kinds.aboves range cell ≡ true)
 
 -- where each part of a source may be written in each range of the order, and so may the counters of
--- its graphs, whose nodes are just those that are reached, what stands in them may be written
+-- its graphs, whose nodes are just those that are reached, what is in them may be written
 abbrev pub ServedSourcesHaveServedGraphs : Type 0
 ServedSourcesHaveServedGraphs =
     (naming : Naming) (kinds : Writable) (plan : Plan) (program : Program) →

@@ -10,11 +10,14 @@ spent step cost zero state = 0
 spent step cost (suc n) state = cost state + spent step cost n (step state)
 
 -- a run is within the step at which this state stands: what was shown before it is shown, and what
--- is shown behind it isn't passed
+-- is shown after it isn't passed
 pub record Within {Event End State : Type 0} (step : State → State) (shows : State → Run Event End)
     (state : State) (run : Run Event End) : Type 0 where
+  -- the run is still going
   pub going : run.standing ≡ Going
+  -- what was shown before the step is shown
   pub past : Covers (shows state) run
+  -- and nothing that the step doesn't show
   pub short : Covers run (shows (step state))
 
 -- the run is the machine's as far as the units go: they pay its steps, and where it goes on not the
@@ -22,9 +25,13 @@ pub record Within {Event End State : Type 0} (step : State → State) (shows : S
 pub record Payment {Event End State : Type 0} (step : State → State) (shows : State → Run Event End)
     (cost : State → ℕ) (parted : State → Bool) (start : State) (units : ℕ) (run : Run Event End)
     : Type 0 where
+  -- so many steps are paid
   pub steps : ℕ
+  -- the units pay them
   pub paid : spent step cost steps start ≤ units
+  -- and where the run goes on, not one step more
   pub lacks : run.standing ≡ Going → units < spent step cost (suc steps) start
+  -- the run is the state then, or within the next step
   pub shown : (shows (iterate step steps start) ≡ run)
       ⊎ ((parted (iterate step steps start) ≡ true)
       × Within step shows (iterate step steps start) run
@@ -48,13 +55,21 @@ Matched {World} factor a b = (world : World) (m : ℕ) →
 pub record Charges {World Event End A B : Type 0} (a : Machine World Event End A)
     (b : Machine World Event End B) (cost_a : A → ℕ) (cost_b : B → ℕ) (parted : A → Bool)
     (factor : ℕ) (Related : A → B → Type 0) : Type 0 where
+  -- what the second may still cost too much
   pub owed : (s : A) (t : B) → Related s t → ℕ
+  -- what the first may still cost too much
   pub due : (s : A) (t : B) → Related s t → ℕ
+  -- both begin so related
   pub starts : (world : World) → Related (a.begun world) (b.begun world)
+  -- at the beginning neither owes much
   pub owes : (world : World) → owed (a.begun world) (b.begun world) (starts world) + 2 ≤ factor
+  -- what is due at the start is within the factor
   pub dues : (world : World) → due (a.begun world) (b.begun world) (starts world) + 2 ≤ factor
+  -- no step of the first costs more than two units
   pub cheap : (s : A) → cost_a s ≤ 2
+  -- related states show the same
   pub agree : (s : A) (t : B) → Related s t → a.run s ≡ b.run t
+  -- a step of the first leads to a related state, after some steps of the second
   pub moves : (s : A) (t : B) (r : Related s t) → (a.run s).standing ≡ Going →
       (j : ℕ) × (next : Related (a.step s) (iterate b.step j t))
       × (spent b.step cost_b j t ≤ factor * cost_a s + owed s t r)

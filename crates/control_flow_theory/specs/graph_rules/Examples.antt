@@ -7,12 +7,15 @@ use Rattle.control_flow_theory.specs.graph_rules.Families.{Added, Never, Flag}
 use Rattle.control_flow_theory.specs.graph_rules.Shapes.{alone}
 use Rattle.control_flow_theory.specs.graph_rules.Reduced.{Node, Graph, shaped}
 
+-- DISPLAY of one byte
 abbrev pub say : ℕ → Stmt
 say byte = Do (Own (says byte))
 
+-- the tree at this label
 abbrev pub labelled : Label → Tree → Node
 labelled label one = record { label = label; tree = one }
 
+-- the jump to this label alone
 abbrev pub to : Label → Tree
 to label = tree none (Jump label)
 
@@ -20,15 +23,19 @@ to label = tree none (Jump label)
 abbrev pub again : ℕ → Tree
 again byte = tree (alone (say byte)) (Jump 0)
 
+-- a choice between two trees
 abbrev pub either : Picker → Tree → Tree → End
 either picker first second = Pick picker (more first (more second no_more))
 
+-- a choice between two lists of statements
 abbrev pub choice : Picker → Stmts → Stmts → Stmt
 choice picker first second = Choose picker (given first (given second done))
 
+-- IF 3
 abbrev pub three : Picker
 three = If (Holds (is 3))
 
+-- a graph with this entry, these nodes and these added cells
 abbrev pub graph : Label → List Node → List Added → Graph
 graph entry nodes added = record { entry = entry; nodes = nodes; added = added }
 

@@ -20,6 +20,7 @@ pub data Added : Type 0 where
 abbrev pub Kinds : Type 0
 Kinds = Range → ℕ → Option Added
 
+-- the range has the cell as one that is added
 abbrev pub Has : Kinds → Range → ℕ → Type 0
 Has kinds range cell = (kind : Added) × (kinds range cell ≡ Some kind)
 
@@ -27,7 +28,7 @@ Has kinds range cell = (kind : Added) × (kinds range cell ≡ Some kind)
 abbrev pub MaySet : Kinds → Range → ℕ → Type 0
 MaySet kinds range cell = Has kinds range cell × (kinds range cell ≢ Some Never)
 
--- no range stands twice in the order, each performs only ranges behind it and names only its cells,
+-- no range comes twice in the order, each performs only ranges after it and names only its cells,
 -- and no body holds an escape
 abbrev pub IsFamily : Kinds → Family → List Range → Type 0
 IsFamily kinds = Ordered (Has kinds) (MaySet kinds)
@@ -37,6 +38,7 @@ abbrev pub IsReady : {Memory : Type 0} → Kinds → Celled Memory → Type 0
 IsReady kinds memory =
     (range : Range) (cell : ℕ) → kinds range cell ≡ Some Never → memory.cells range cell ≡ 0
 
+-- a memory in which each cell that never changes holds 0
 pub record Ready (Memory : Type 0) (kinds : Kinds) : Type 0 where
   pub memory : Celled Memory
   pub ready : IsReady kinds memory

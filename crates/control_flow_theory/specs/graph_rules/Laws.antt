@@ -1,4 +1,4 @@
--- What is said of the rules: the walk by recursion is the walk step by step, each rule keeps what a
+-- What holds of the rules: the walk by recursion is the walk step by step, each rule keeps what a
 -- walk does, and a shaped family does what it did.
 use Rattle.std.specs.Prelude.{ℕ, ◌≡◌, ◌≢◌, ◌↔◌, ◌+◌, ◌*◌, Bool, true, List, Some, [], ◌∷◌, None}
 use Rattle.control_flow_theory.specs.runs.Run.{Over, Covers}
@@ -29,6 +29,7 @@ module _ (Memory Left : Type 0) where
       Paid (walked acting left family order range) (walk_machine acting left family range)
       (cost acting) parted
 
+  -- the walk of a range by recursion and the one step by step are tied
   abbrev pub WalksAreTied : Type 0
   WalksAreTied =
       (acting : Acting Memory) (left : Memory → Left) (kinds : Kinds) (family : Family)
@@ -47,6 +48,7 @@ module _ (Memory Left : Type 0) where
       g order range)
       (walked_from acting left (λ (start : Ready Memory kinds). start.memory) h order range))
 
+  -- where choices have become statements, the walks do the same
   abbrev pub JoinKeeps : Type 0
   JoinKeeps = (acting : Acting Memory) (left : Memory → Left) (kinds : Kinds) (g h : Family)
       (order : List Range) → IsFamily kinds g order → IsFamily kinds h order →
@@ -63,6 +65,7 @@ module _ (Memory Left : Type 0) where
       (reached : Range → Label → Bool) → Pruned (λ r l. reached r l ≡ true) g h →
       DoesTheSame acting left kinds g h order
 
+  -- where a node has taken the place of the jumps to it, the walks do the same
   abbrev pub InlineKeeps : Type 0
   InlineKeeps =
       (acting : Acting Memory) (left : Memory → Left) (kinds : Kinds) (g h : Family)
@@ -71,6 +74,7 @@ module _ (Memory Left : Type 0) where
       (range : Range) (label : Label) → Inlined range label g h →
       DoesTheSame acting left kinds g h order
 
+  -- where a node has become a loop that is tested before or after, the walks do the same
   abbrev pub TestedKeeps : Type 0
   TestedKeeps =
       (acting : Acting Memory) (left : Memory → Left) (kinds : Kinds) (g h : Family)
@@ -103,8 +107,8 @@ module _ (Memory Left : Type 0) where
       (range : Range) (s t : Celled Memory) (units : ℕ) → SameCells kinds s t →
       walked acting left family order range s units ≡ walked acting left family order range t units
 
-  -- so a rule keeps what a walk does from any two memories that agree on every cell that both
-  -- families have
+  -- a rule keeps what a walk does from any two memories that agree on every cell that both families
+  -- have
   abbrev pub KeptFromAgreeing : Type 0
   KeptFromAgreeing =
       (acting : Acting Memory) (left : Memory → Left) (kinds more : Kinds) (g h : Family)
@@ -136,9 +140,11 @@ abbrev pub OneJoinGives : Type 0
 OneJoinGives =
     (t u : Tree) → joined_once t ≡ Some u → JoinsTree t (before (body_of u) []) (end_of u)
 
+-- a join more or less makes no difference to the tree after all joins
 abbrev pub JoinsAddUp : Type 0
 JoinsAddUp = (t u : Tree) → joined_once t ≡ Some u → joined u ≡ joined t
 
+-- where no join applies, the tree after all joins is the tree itself
 abbrev pub NoJoinIsLeft : Type 0
 NoJoinIsLeft = (t : Tree) → joined_once t ≡ None → joined t ≡ t
 
@@ -154,11 +160,13 @@ EndlessGives = (cell : ℕ) (label : Label) (out : End) (t : Tree) →
     other_targets label t ≡ NoTarget →
     LoopsTree Endless cell label out t (before (flat Endless cell label t) [])
 
+-- the body of a loop with a flag, where its leaves lead to one target
 abbrev pub FlagGives : Type 0
 FlagGives = (cell : ℕ) (label : Label) (live : Live) (t : Tree) →
     other_targets label t ≡ Only live →
     LoopsTree Flagged cell label (end_at live) t (before (flat Flagged cell label t) [])
 
+-- the node of a loop with a test of its own
 abbrev pub FormGives : Type 0
 FormGives = (label : Label) (live : Live) (t : Tree) (form : Form) →
     form_of label live t ≡ Some form →
@@ -182,9 +190,13 @@ module _ {Memory Left : Type 0} (acting : Acting Memory) (left : Memory → Left
   -- the second graphs do what the first do: they have their cells, are a sound family, and from any
   -- range and any ready memory the walks are tied
   pub record AsBefore (graphs others : Graphs) (order : List Range) : Type 0 where
+    -- the second graphs have the cells of the first
     pub extends : Extends (kinds_of graphs) (kinds_of others)
+    -- the second graphs are a family
     pub family : IsFamily (kinds_of others) (family_of others) order
+    -- it is sound
     pub sound : IsSound acting left (kinds_of others) (family_of others) order
+    -- from any range and any ready memory the walks are tied
     pub tied : (range : Range) → In range order →
         Tied (walked_from acting left (λ (start : Ready Memory (kinds_of others)). start.memory)
         (family_of graphs) order range)
@@ -199,7 +211,8 @@ ShapedKeeps Memory Left =
     IsSound acting left (kinds_of graphs) (family_of graphs) order →
     AsBefore acting left graphs (all_shaped order graphs) order
 
--- so the walk of the whole program does what it did, step by step and with no cell set
+-- the walk of the whole program, once it is shaped, does what it did, step by step and with no cell
+-- set
 abbrev pub ShapedMainIsTied : Type 0 → Type 0 → Type 0
 ShapedMainIsTied Memory Left =
     (acting : Acting Memory) (left : Memory → Left) (graphs : Graphs) (order : List Range) →

@@ -13,7 +13,7 @@ pub data Keeper : Type 0 where
   Endless : Keeper
 
 abbrev mutual
-  -- what stands in place of an end inside the loop on this label, which leaves by this end
+  -- what takes the place of an end inside the loop on this label, which leaves by this end
   pub LoopsEnd : Keeper → ℕ → Label → End → End → List Item → Type 0
   LoopsEnd keeper cell label out (Pick picker arms) tail = (news : Arms)
       × (tail ≡ Do (Choose picker news) ∷ []) × LoopsArms keeper cell label out arms news
@@ -25,10 +25,12 @@ abbrev mutual
   LoopsEnd keeper cell label out Stop tail = tail ≡ Do StopRun ∷ []
   LoopsEnd keeper cell label out Dead tail = tail ≡ []
 
+  -- what takes the place of a tree inside the loop
   pub LoopsTree : Keeper → ℕ → Label → End → Tree → List Item → Type 0
   LoopsTree keeper cell label out (tree body end) items =
       (tail : List Item) × (items ≡ before body tail) × LoopsEnd keeper cell label out end tail
 
+  -- arm by arm; an arm of which nothing is left may be missing
   pub LoopsArms : Keeper → ℕ → Label → End → Trees → Arms → Type 0
   LoopsArms keeper cell label out no_more news = news ≡ done
   LoopsArms keeper cell label out (more first others) news =
@@ -56,10 +58,15 @@ Unused keeper range cell =
 -- the family with the loop in place of the node
 pub record Looped (keeper : Keeper) (cell : ℕ) (range : Range) (label : Label) (out : End)
     (body : Stmts) (g h : Family) (order : List Range) : Type 0 where
+  -- the entries are the same
   pub entries : (r : Range) → h.entry r ≡ g.entry r
+  -- the loop comes at the label, and then this end
   pub node : h.node range label ≡ tree (loop_of keeper cell body) out
+  -- its body is what the node's tree becomes inside the loop
   pub turn : LoopsTree keeper cell label out (g.node range label) (before body [])
+  -- the other nodes are the same
   pub same : (r : Range) (l : Label) → (r ≢ range) ⊎ (l ≢ label) → h.node r l ≡ g.node r l
+  -- nothing else uses the loop's cell
   pub unused : Unused keeper range cell g order
 
 -- the two arms of IF, the first of which leaves, or the second
@@ -67,6 +74,7 @@ abbrev pub two_arms : Bool → Tree → Tree → Trees
 two_arms false out stay = more out (more stay no_more)
 two_arms true out stay = more stay (more out no_more)
 
+-- the test, or its negation
 abbrev pub turned_test : Bool → Test → Test
 turned_test false test = test
 turned_test true test = Not test
@@ -82,8 +90,12 @@ tested_node true turned test label body out =
 -- the family with a loop that is tested before or after in place of the node
 pub record Tested (after turned : Bool) (test : Test) (range : Range) (label : Label) (out : End)
     (body : Stmts) (g h : Family) : Type 0 where
+  -- the entries are the same
   pub entries : (r : Range) → h.entry r ≡ g.entry r
+  -- the node is that of such a loop
   pub old : g.node range label ≡ tested_node after turned test label body out
+  -- and becomes the loop
   pub new : h.node range label
       ≡ tree (also (Loop (Until after (turned_test turned test)) (Nested body)) none) out
+  -- the other nodes are the same
   pub same : (r : Range) (l : Label) → (r ≢ range) ⊎ (l ≢ label) → h.node r l ≡ g.node r l

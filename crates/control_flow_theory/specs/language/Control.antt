@@ -34,6 +34,7 @@ use Rattle.control_flow_theory.specs.language.Language as language
 -- Added items. An item number from 2^31 upward is a cell, and the words on it are those that
 -- restructuring writes.
 
+-- the cell that a place names, if it names one
 abbrev pub cell_of : Place → Option ℕ
 cell_of place =
     if nat_le (2 ^ 31) (out-Place place).item then Some ((out-Place place).item - 2 ^ 31) else None
@@ -58,9 +59,11 @@ abbrev pub number_written : Operand → Option ℕ
 number_written operand =
     elim (out-Operand operand) [ Operand-F.Number number ↦ number_of number | _ ↦ None ]
 
+-- the cell that an expression names, if it is an operand alone
 abbrev pub cell_in : Expr → Option ℕ
 cell_in expr = elim (out-Expr expr) [ Expr-F.Leaf operand ↦ cell_named operand | _ ↦ None ]
 
+-- the number that an expression writes, if it is an operand alone
 abbrev pub number_in : Expr → Option ℕ
 number_in expr = elim (out-Expr expr) [ Expr-F.Leaf operand ↦ number_written operand | _ ↦ None ]
 
@@ -77,9 +80,11 @@ pub record Tested : Type 0 where
   pub cond : Cond
   pub test : language.Test
 
+-- a condition that is no test of a cell
 abbrev pub held : Cond → Tested
 held whole = record { cond = whole; test = language.Holds whole }
 
+-- one level of a condition: the condition again, and the test that it is
 abbrev pub tested_step : Cond-F Tested → Tested
 tested_step (Cond-F.Relation left rel right) = record {
   cond = cond.Relation left rel right;
@@ -93,6 +98,7 @@ tested_step (Cond-F.Not inner) =
 tested_step (Cond-F.And left right) = held (cond.And left.cond right.cond)
 tested_step (Cond-F.Or left right) = held (cond.Or left.cond right.cond)
 
+-- the condition again, with the test that it is
 abbrev pub tested : Cond → Tested
 tested = fold-Cond Tested tested_step
 
@@ -102,37 +108,42 @@ test_of whole = (tested whole).test
 
 -- Statements that act.
 
--- MOVE to a cell sets it to a number, or takes what an operand holds
+-- the act of a MOVE to a cell: it sets it to a number, or takes what an operand holds
 abbrev pub setting : Option ℕ → Operand → ℕ → language.Act
 setting (Some value) from cell = language.Set cell value
 setting None from cell = language.Take cell from
 
+-- a MOVE to one place: to a cell, or to an item of the program
 abbrev pub move_to : Option ℕ → Operand → Place → language.Act
 move_to None from to = language.Own (stmt.Move from (to ∷ []))
 move_to (Some cell) from to = setting (number_written from) from cell
 
+-- a MOVE; one to several places is the program's own
 abbrev pub move_of : Operand → List Place → language.Act
 move_of from (to ∷ []) = move_to (cell_of to) from to
 move_of from to = language.Own (stmt.Move from to)
 
--- without phrases
+-- no phrases
 abbrev pub bare : Arms
 bare = roll-Arms (record { first = None; second = None })
 
+-- arithmetic without phrases
 abbrev pub arith_alone : Calc → List Target → Stmt
 arith_alone calc into = stmt.Arith calc into bare
 
--- SUBTRACT 1 FROM a cell lowers it
+-- the cell that SUBTRACT 1 FROM it lowers, if it does
 abbrev pub lowered_cell : Calc → List Target → Option ℕ
 lowered_cell (calc.Subtract (part ∷ [])) (target ∷ []) =
     if target.rounded then None
     else (if is_number 1 (number_written part) then cell_of target.place else None)
 lowered_cell calc into = None
 
+-- arithmetic that lowers this cell, or is the program's own
 abbrev pub arith_act : Option ℕ → Calc → List Target → language.Act
 arith_act (Some cell) calc into = language.Lower cell
 arith_act None calc into = language.Own (arith_alone calc into)
 
+-- arithmetic without phrases as an act
 abbrev pub arith_of : Calc → List Target → language.Act
 arith_of calc into = arith_act (lowered_cell calc into) calc into
 
@@ -149,21 +160,24 @@ count_from number [] = true
 count_from number (tests ∷ others) =
     if is_number number (when_number tests) then count_from (suc number) others else false
 
+-- the cell that is the subject of an EVALUATE, if one is
 abbrev pub cell_chosen : Subject → Option ℕ
 cell_chosen (subject.Value expr) = cell_in expr
 cell_chosen other = None
 
+-- what EVALUATE chooses by: a cell, where the WHENs count from 1, else the chooser
 abbrev pub picker_by : Option ℕ → Bool → language.Chooser → language.Picker
 picker_by (Some cell) true chooser = language.ByCell cell
 picker_by cell counted chooser = language.By chooser
 
--- EVALUATE of a cell whose WHENs count from 1 chooses by the cell
+-- what EVALUATE chooses by: a cell whose WHENs count from 1, or else the program's own choice
 abbrev pub evaluate_of : Subject → List (List Test) → Bool → language.Picker
 evaluate_of subject tests has_other =
     picker_by (cell_chosen subject) (count_from 1 tests) (language.Evaluate subject tests has_other)
 
 -- Lists and arms.
 
+-- a list of statements
 abbrev pub stmts_of : List language.Stmt → language.Stmts
 stmts_of [] = language.none
 stmts_of (stmt ∷ stmts) = language.also stmt (stmts_of stmts)
@@ -186,11 +200,14 @@ else_of (stmt ∷ stmts) = Some (stmts_of (stmt ∷ stmts))
 -- a WHEN: its tests, and its statements
 pub record Branch : Type 0 where
   pub tests : List Test
+  -- the statements
   pub arm : language.Stmts
 
+-- the tests of each WHEN
 abbrev pub tests_of : List Branch → List (List Test)
 tests_of branches = map (λ branch. branch.tests) branches
 
+-- the arms of the WHENs, before the others
 abbrev pub branches_before : List Branch → language.Arms → language.Arms
 branches_before [] others = others
 branches_before (branch ∷ branches) others =
@@ -201,10 +218,11 @@ pub record Both : Type 0 where
   pub first : Option language.Stmts
   pub second : Option language.Stmts
 
+-- the two arms, each of which may be missing
 abbrev pub both_arms : Both → language.Arms
 both_arms both = arm_before both.first (arm_before both.second language.done)
 
--- arithmetic with a phrase chooses, and without one acts
+-- arithmetic: with a phrase it chooses, and without one it acts
 abbrev pub arith_stmt : Calc → List Target → Both → language.Stmt
 arith_stmt calc into both =
     if is_some both.first || is_some both.second
@@ -213,6 +231,7 @@ arith_stmt calc into both =
 
 -- Loops.
 
+-- the figurative constant ZERO as an expression
 abbrev pub zero_side : Expr
 zero_side = roll-Expr (Expr-F.Leaf (roll-Operand (Operand-F.Figure Zero)))
 
@@ -224,11 +243,12 @@ always = cond.Relation zero_side Equal zero_side
 abbrev pub setting_item : Place → Operand → language.Act
 setting_item item from = language.Own (stmt.Move from (item ∷ []))
 
--- and augments it by an ADD
+-- the ADD by which VARYING augments its item
 abbrev pub augmenting : Place → Operand → Stmt
 augmenting item by =
     arith_alone (calc.Add (by ∷ [])) (record { place = item; rounded = false } ∷ [])
 
+-- VARYING's ADD as an act
 abbrev pub augmented : Place → Operand → language.Act
 augmented item by = language.Own (augmenting item by)
 
@@ -240,18 +260,20 @@ control_in (control.Until after until) = Some (language.Until after (test_of unt
 control_in (control.Varying after item from by until) =
     Some (language.Varying after (setting_item item from) (augmented item by) (test_of until))
 
--- an inline loop has a control; one without it would be a choice of one arm
+-- an inline loop over these statements; without a control it is a choice of one arm
 abbrev pub loop_of : Option language.Control → language.Stmts → language.Stmt
 loop_of None body =
     language.Choose (language.If (language.Holds always)) (language.given body language.done)
 loop_of (Some control) body = language.Loop control (language.Nested body)
 
+-- a PERFORM of a range: a call, or a loop over it
 abbrev pub perform_of : Option language.Control → ℕ → ℕ → language.Stmt
 perform_of None entry exit = language.Perform entry exit
 perform_of (Some control) entry exit = language.Loop control (language.Performed entry exit)
 
 -- Statements, in a section whose last paragraph is this one.
 
+-- one level of a statement: the statement of the language that it is
 abbrev pub seen_step : ℕ → Stmt-F language.Stmt Both Branch → language.Stmt
 seen_step last (Stmt-F.Arith calc into both) = arith_stmt calc into both
 seen_step last (Stmt-F.Move from to) = language.Do (move_of from to)
@@ -283,33 +305,41 @@ seen_step last (Stmt-F.Rewrite entry from) = language.Do (language.Own (stmt.Rew
 seen_step last Stmt-F.Exit = language.Do (language.Own stmt.Exit)
 seen_step last Stmt-F.Continue = language.Do (language.Own stmt.Continue)
 
+-- the two arms of a statement, of which either may be absent
 abbrev pub both_step : Arms-F language.Stmt Both Branch → Both
 both_step arms = record { first = stmts_if_any arms.first; second = stmts_if_any arms.second }
 
+-- a WHEN with the statements of its arm
 abbrev pub branch_step : When-F language.Stmt Both Branch → Branch
 branch_step when = record { tests = when.tests; arm = stmts_of when.stmts }
 
+-- a statement of the tree as one of the language
 abbrev pub seen : ℕ → Stmt → language.Stmt
 seen last = fold-Stmt language.Stmt Both Branch (seen_step last) both_step branch_step
 
+-- a WHEN of the tree, with its arm in the language
 abbrev pub seen_when : ℕ → When → Branch
 seen_when last = fold-When language.Stmt Both Branch (seen_step last) both_step branch_step
 
+-- the two arms of a statement of the tree, in the language
 abbrev pub seen_both : ℕ → Arms → Both
 seen_both last = fold-Arms language.Stmt Both Branch (seen_step last) both_step branch_step
 
+-- statements of the tree in the language
 abbrev pub seen_stmts : ℕ → List Stmt → language.Stmts
 seen_stmts last stmts = stmts_of (map (seen last) stmts)
 
 -- Paragraphs.
 
+-- a sentence of the tree in the language
 abbrev pub seen_sentence : ℕ → Sentence → language.Sentence
 seen_sentence last sentence = seen_stmts last sentence.stmts
 
+-- a paragraph of the tree in the language
 abbrev pub seen_paragraph : ℕ → Paragraph → language.Paragraph
 seen_paragraph last paragraph = map (seen_sentence last) paragraph.sentences
 
--- the last paragraph of the section of the paragraph with this number, by those behind it
+-- the last paragraph of the section of the paragraph with this number, by those after it
 abbrev pub section_last : ℕ → List Paragraph → ℕ
 section_last number [] = number
 section_last number (next ∷ others) =

@@ -52,7 +52,7 @@ before_arm (given arm others) (suc k) rest = before_arm others k rest
 before_arm (missing others) zero rest = rest
 before_arm (missing others) (suc k) rest = before_arm others k rest
 
--- the rest behind its first sentence end
+-- the rest after its first sentence end
 abbrev pub past_sentence : List Item → List Item
 past_sentence [] = []
 past_sentence (Do stmt ∷ rest) = past_sentence rest

@@ -16,6 +16,7 @@ use Rattle.cob_tree.specs.declared.stmt.Stmt as stmts
 abbrev pub Simple : Type 0
 Simple = stmts.Stmt
 
+-- a condition
 abbrev pub Cond : Type 0
 Cond = conds.Cond
 
@@ -25,10 +26,10 @@ Amount = operands.Operand
 
 -- what chooses an arm, but for a condition
 pub data Chooser : Type 0 where
-  -- EVALUATE: its subject, the tests of each WHEN, and whether WHEN OTHER stands
+  -- EVALUATE: its subject, the tests of each WHEN, and whether WHEN OTHER is there
   Evaluate : (subject : subjects.Subject) → (tests : List (List choices.Test)) →
       (has_other : Bool) → Chooser
-  -- READ: its file, the INTO, and whether AT END stands
+  -- READ: its file, the INTO, and whether AT END is there
   Read : (file : ℕ) → (into : Option places.Place) → (has_end : Bool) → Chooser
   -- arithmetic with a phrase on size errors
   Arith : (calc : calcs.Calc) → (into : List targets.Target) → Chooser
@@ -38,6 +39,7 @@ pub data Chooser : Type 0 where
 -- Restructuring adds items: cells, each a number of the range that owns them. No source program
 -- has these words.
 
+-- a statement that acts and goes on: the program's own, or a word on a cell
 pub data Act : Type 0 where
   Own : (simple : Simple) → Act
   -- MOVE a number TO the cell
@@ -47,6 +49,7 @@ pub data Act : Type 0 where
   -- SUBTRACT 1 FROM the cell
   Lower : (cell : ℕ) → Act
 
+-- what a statement tests: a condition of the program, or a cell
 pub data Test : Type 0 where
   Holds : (cond : Cond) → Test
   Not : (test : Test) → Test
@@ -61,6 +64,7 @@ pub data Picker : Type 0 where
   By : (chooser : Chooser) → Picker
   ByCell : (cell : ℕ) → Picker
 
+-- how a loop turns: so many times, until a test holds, or with an item that varies
 pub data Control : Type 0 where
   Times : (amount : Amount) → Control
   Until : (after : Bool) → (test : Test) → Control
@@ -68,6 +72,7 @@ pub data Control : Type 0 where
   Varying : (after : Bool) → (set : Act) → (step : Act) → (test : Test) → Control
 
 mutual
+  -- a statement
   pub data Stmt : Type 0 where
     Do : (act : Act) → Stmt
     -- a statement with arms; an arm may be missing
@@ -85,6 +90,7 @@ mutual
     ExitPerform : (cycle : Bool) → Stmt
     StopRun : Stmt
 
+  -- statements in order
   pub data Stmts : Type 0 where
     none : Stmts
     also : (first : Stmt) → (others : Stmts) → Stmts
@@ -100,6 +106,7 @@ mutual
     Nested : (stmts : Stmts) → Body
     Performed : (entry : ℕ) → (exit : ℕ) → Body
 
+-- a sentence is its statements
 abbrev pub Sentence : Type 0
 Sentence = Stmts
 
@@ -107,9 +114,11 @@ Sentence = Stmts
 abbrev pub Paragraph : Type 0
 Paragraph = List Sentence
 
+-- a program is its paragraphs
 pub record Program : Type 0 where
   pub paragraphs : List Paragraph
 
+-- the paragraph, or one with nothing to do where it is absent
 abbrev pub unless_absent : Option Paragraph → Paragraph
 unless_absent None = []
 unless_absent (Some paragraph) = paragraph
@@ -120,10 +129,12 @@ paragraph_at program number = unless_absent (slice_get program.paragraphs number
 
 -- The ranges of a program: the whole of it, and what a PERFORM names.
 
+-- main, or the paragraphs from an entry to an exit
 pub data Range : Type 0 where
   Main : Range
   Part : (entry : ℕ) → (exit : ℕ) → Range
 
+-- the two are one range
 abbrev pub same_range : Range → Range → Bool
 same_range Main Main = true
 same_range Main (Part entry exit) = false

@@ -12,14 +12,14 @@ abbrev pub statements_of : List Paragraph → List (List (List Stmt))
 statements_of paragraphs =
     map (λ paragraph. map (λ sentence. sentence.stmts) paragraph.sentences) paragraphs
 
--- two programs with one control, in which no word on an added item stands, have the same statements
+-- two programs with one control, without a word on an added item, have the same statements
 abbrev pub ControlLosesNothing : Type 0
 ControlLosesNothing =
     (program other : Program) → OwnParagraphs (control_of program).paragraphs →
     control_of program ≡ control_of other →
     statements_of program.paragraphs ≡ statements_of other.paragraphs
 
--- where each item number is below 2^31 no word on an added item stands
+-- where each item number is below 2^31 there is no word on an added item
 abbrev pub OwnItemsAlone : Type 0
 OwnItemsAlone =
     (program : Program) → NamesOwnItems program → OwnParagraphs (control_of program).paragraphs

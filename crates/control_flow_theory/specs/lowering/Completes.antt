@@ -1,4 +1,4 @@
--- What a statement holds, whether it can complete, and what stands behind one that can't.
+-- What a statement holds, whether it can complete, and what follows one that can't.
 use Rattle.std.specs.Prelude.{ℕ, Bool, true, false, if◌then◌else◌, ◌+◌}
 use Rattle.control_flow_theory.specs.language.Language.{Act, Own, Set, Take, Lower, Picker, If, By, ByCell, Control, Times, Until, Varying, Stmt, Do, Choose, Loop, Perform, Go, GoDepending, NextSentence, ExitParagraph, ExitSection, ExitPerform, StopRun, Stmts, none, also, Arms, done, given, missing, Body, Nested, Performed}
 use Rattle.control_flow_theory.specs.lowering.FlowFacts.{FlowFacts}
@@ -16,7 +16,7 @@ first_is_dead told (By chooser) = told.never_first chooser
 first_is_dead told (ByCell cell) = false
 
 abbrev mutual
-  -- control can come behind it
+  -- control can come after it
   pub completes : FlowFacts → Stmt → Bool
   completes told (Do act) = true
   completes told (Choose picker arms) = choice_completes told (first_is_dead told picker) arms
@@ -32,6 +32,7 @@ abbrev mutual
   completes told (ExitPerform cycle) = false
   completes told StopRun = false
 
+  -- control can come to what follows these statements
   pub complete : FlowFacts → Stmts → Bool
   complete told none = true
   complete told (also stmt stmts) = if completes told stmt then complete told stmts else false
@@ -45,11 +46,12 @@ abbrev mutual
   choice_completes told first (missing others) =
       if first then choice_completes told false others else true
 
+  -- control can come to the end of a loop's body; of a range, where the range returns
   pub body_completes : FlowFacts → Body → Bool
   body_completes told (Nested stmts) = complete told stmts
   body_completes told (Performed entry exit) = told.returning entry exit
 
-  -- an EXIT PERFORM of the loop around stands in it, with or without CYCLE, and not behind what
+  -- an EXIT PERFORM of the loop around is in it, with or without CYCLE, and not after what
   -- can't complete
   pub leaves_loop : FlowFacts → Stmt → Bool
   leaves_loop told (Do act) = false
@@ -64,23 +66,26 @@ abbrev mutual
   leaves_loop told (ExitPerform cycle) = true
   leaves_loop told StopRun = false
 
+  -- the same of statements in order
   pub leave_loop : FlowFacts → Stmts → Bool
   leave_loop told none = false
   leave_loop told (also stmt stmts) =
       if leaves_loop told stmt then true
       else (if completes told stmt then leave_loop told stmts else false)
 
+  -- the same of one of these arms
   pub arms_leave_loop : FlowFacts → Arms → Bool
   arms_leave_loop told done = false
   arms_leave_loop told (given arm others) =
       if leave_loop told arm then true else arms_leave_loop told others
   arms_leave_loop told (missing others) = arms_leave_loop told others
 
+  -- the same of a loop's body
   pub body_leaves_loop : FlowFacts → Body → Bool
   body_leaves_loop told (Nested stmts) = leave_loop told stmts
   body_leaves_loop told (Performed entry exit) = false
 
--- lists end behind the first statement that can't complete
+-- lists end after the first statement that can't complete
 abbrev mutual
   pub cut : FlowFacts → Stmt → Stmt
   cut told (Do act) = Do act
@@ -95,21 +100,24 @@ abbrev mutual
   cut told (ExitPerform cycle) = ExitPerform cycle
   cut told StopRun = StopRun
 
+  -- the statements as far as the first that can't complete, each cut
   pub cuts : FlowFacts → Stmts → Stmts
   cuts told none = none
   cuts told (also stmt stmts) =
       also (cut told stmt) (if completes told stmt then cuts told stmts else none)
 
+  -- each arm cut
   pub cut_arms : FlowFacts → Arms → Arms
   cut_arms told done = done
   cut_arms told (given arm others) = given (cuts told arm) (cut_arms told others)
   cut_arms told (missing others) = missing (cut_arms told others)
 
+  -- a loop's body cut
   pub cut_body : FlowFacts → Body → Body
   cut_body told (Nested stmts) = Nested (cuts told stmts)
   cut_body told (Performed entry exit) = Performed entry exit
 
--- no escape stands in it: GO TO, GO TO DEPENDING, NEXT SENTENCE, EXIT PARAGRAPH, EXIT SECTION or
+-- there is no escape in it: GO TO, GO TO DEPENDING, NEXT SENTENCE, EXIT PARAGRAPH, EXIT SECTION or
 -- EXIT PERFORM
 abbrev mutual
   pub whole : Stmt → Bool
@@ -125,20 +133,23 @@ abbrev mutual
   whole (ExitPerform cycle) = false
   whole StopRun = true
 
+  -- there is no escape in these statements
   pub wholes : Stmts → Bool
   wholes none = true
   wholes (also stmt stmts) = if whole stmt then wholes stmts else false
 
+  -- there is no escape in these arms
   pub whole_arms : Arms → Bool
   whole_arms done = true
   whole_arms (given arm others) = if wholes arm then whole_arms others else false
   whole_arms (missing others) = whole_arms others
 
+  -- there is no escape in a loop's body
   pub whole_body : Body → Bool
   whole_body (Nested stmts) = wholes stmts
   whole_body (Performed entry exit) = true
 
--- a NEXT SENTENCE stands in it
+-- there is a NEXT SENTENCE in it
 abbrev mutual
   pub leaves_sentence : Stmt → Bool
   leaves_sentence (Do act) = false
@@ -153,16 +164,19 @@ abbrev mutual
   leaves_sentence (ExitPerform cycle) = false
   leaves_sentence StopRun = false
 
+  -- there is a NEXT SENTENCE in one of these statements
   pub leave_sentence : Stmts → Bool
   leave_sentence none = false
   leave_sentence (also stmt stmts) = if leaves_sentence stmt then true else leave_sentence stmts
 
+  -- there is a NEXT SENTENCE in one of these arms
   pub arms_leave_sentence : Arms → Bool
   arms_leave_sentence done = false
   arms_leave_sentence (given arm others) =
       if leave_sentence arm then true else arms_leave_sentence others
   arms_leave_sentence (missing others) = arms_leave_sentence others
 
+  -- there is a NEXT SENTENCE in a loop's body
   pub body_leaves_sentence : Body → Bool
   body_leaves_sentence (Nested stmts) = leave_sentence stmts
   body_leaves_sentence (Performed entry exit) = false
@@ -183,15 +197,18 @@ abbrev mutual
   size (ExitPerform cycle) = 1
   size StopRun = 1
 
+  -- how many places these statements take
   pub sizes : Stmts → ℕ
   sizes none = 0
   sizes (also stmt stmts) = size stmt + sizes stmts
 
+  -- how many places these arms take
   pub size_arms : Arms → ℕ
   size_arms done = 0
   size_arms (given arm others) = sizes arm + size_arms others
   size_arms (missing others) = size_arms others
 
+  -- how many places a loop's body takes; a range takes none
   pub size_body : Body → ℕ
   size_body (Nested stmts) = sizes stmts
   size_body (Performed entry exit) = 0

@@ -8,7 +8,7 @@ use Rattle.control_flow_theory.specs.lowering.Completes.{completes}
 use Rattle.control_flow_theory.specs.lowering.Lower.{end_alone}
 use Rattle.control_flow_theory.specs.lowering.Lowered.{lowered}
 
--- every range returns, nothing is skipped
+-- facts by which every range returns and nothing is skipped
 abbrev pub plainly : FlowFacts
 plainly = record {
   returning = λ entry exit. true;
@@ -17,6 +17,7 @@ plainly = record {
   width = λ chooser. 0;
 }
 
+-- DISPLAY of one byte
 abbrev pub shows : ℕ → Stmt
 shows byte = Do (Own (says byte))
 
@@ -74,6 +75,7 @@ CuttingComesFirst =
     (more (end_alone Stop) no_more))))
     × ((lowered plainly counted).node Main 21 ≡ tree (also (shows 1) none) (Jump 13))
 
+-- the statement where this condition holds
 abbrev pub when : ℕ → Stmt → Stmt
 when cond stmt = Choose (If (Holds (is cond))) (given (also stmt none) (missing done))
 
@@ -88,7 +90,7 @@ left_within cycle = record {
       ∷ [];
 }
 
--- EXIT PERFORM goes on behind the loop, and with CYCLE at its head; the label of either is that
+-- EXIT PERFORM goes on after the loop, and with CYCLE at its head; the label of either is that
 -- jump
 abbrev pub LoopsAreLeft : Type 0
 LoopsAreLeft =
@@ -119,7 +121,7 @@ sections = record {
       ∷ [];
 }
 
--- EXIT SECTION goes on at its section's end: to C, or back where the section is performed. Behind C
+-- EXIT SECTION goes on at its section's end: to C, or back where the section is performed. After C
 -- the run stops
 abbrev pub SectionsAreLeft : Type 0
 SectionsAreLeft =
@@ -127,10 +129,11 @@ SectionsAreLeft =
     × ((lowered plainly sections).node (Part 0 1) 0 ≡ tree (also (shows 1) none) Return)
     × ((lowered plainly sections).node Main 15 ≡ tree (also (shows 3) none) Stop)
 
+-- PERFORM WITH TEST AFTER UNTIL 5 of these statements
 abbrev pub after_body : Stmts → Stmt
 after_body stmts = Loop (Until true (Holds (is 5))) (Nested stmts)
 
--- a loop tested after completes where an EXIT PERFORM of its own leaves it; one behind a jump, or
+-- a loop tested after completes where an EXIT PERFORM of its own leaves it; one after a jump, or
 -- of a loop within, doesn't
 abbrev pub LoopsCompleteByExit : Type 0
 LoopsCompleteByExit =

@@ -1,4 +1,4 @@
--- What is said of lowering: what the source does the walk does, no walk is lost, and flow paths
+-- What holds of lowering: what the source does the walk does, no walk is lost, and flow paths
 -- tell all that is asked.
 use Rattle.std.specs.Prelude.{ℕ, ◌≢◌, ◌<◌, length, [], ◌∷◌, ◌≡◌, true, Bool, List}
 use Rattle.control_flow_theory.specs.runs.Run.{Over, Going}
@@ -49,7 +49,7 @@ before_range program entry exit memory = record {
   run = record { trace = []; standing = Going };
 }
 
--- from no memory does the range come to a fault of flow, where it alone is pending
+-- the range comes to a fault of flow from no memory, where it alone is pending
 abbrev pub RangeHasNoFlowFault : {Memory Left : Type 0} → Acting Memory → (Memory → Left) →
     Program → ℕ → ℕ → Type 0
 RangeHasNoFlowFault {Memory} acting left program entry exit =
@@ -63,6 +63,7 @@ abbrev pub IsSoundAt : {Memory Left : Type 0} → Acting Memory → (Memory → 
 IsSoundAt {Memory} acting left family range = (memory : Celled Memory) (n : ℕ) →
     (meaning (walk_machine acting left family range) memory n).standing ≢ Over Lost
 
+-- a lowered range that meets no fault of flow is sound
 abbrev pub LoweredRangeIsSound : Type 0 → Type 0 → Type 0
 LoweredRangeIsSound Memory Left =
     (acting : Acting Memory) (left : Memory → Left) (told : FlowFacts) (program : Program)
@@ -73,6 +74,7 @@ LoweredRangeIsSound Memory Left =
     RangeHasNoFlowFault acting left program entry exit →
     IsSoundAt acting left family (Part entry exit)
 
+-- the same of main, where no run of the program meets a fault of flow
 abbrev pub LoweredMainIsSound : Type 0 → Type 0 → Type 0
 LoweredMainIsSound Memory Left =
     (acting : Acting Memory) (left : Memory → Left) (told : FlowFacts) (program : Program)
@@ -101,7 +103,7 @@ LoweredFamilyKeepsMeaning Memory Left =
     Tied (meaning (source_machine (alone acting) left program))
     (meaning (main_machine acting left (kept keep (lowered told program))))
 
--- and no walk of a range that is entered is lost
+-- no walk of a range that is entered is lost, in what a source is lowered to
 abbrev pub LoweredFamilyIsSound : Type 0 → Type 0 → Type 0
 LoweredFamilyIsSound Memory Left =
     (acting : Acting Memory) (left : Memory → Left) (told : FlowFacts) (program : Program)

@@ -7,13 +7,15 @@ use Rattle.control_flow_theory.specs.semantics.Graph.{Label, Tree, tree, End, Pi
 use Rattle.control_flow_theory.specs.lowering.FlowFacts.{FlowFacts}
 use Rattle.control_flow_theory.specs.lowering.Completes.{first_is_dead, completes, cut, cut_body, whole, whole_body, size, sizes, skips}
 
--- the labels at a place: the point before it, a loop's head, its test or step
+-- the label of the point before a place
 abbrev pub point : ℕ → Label
 point place = 3 * place
 
+-- the label of the head of the loop at a place
 abbrev pub loop_head_label : ℕ → Label
 loop_head_label place = 3 * place + 1
 
+-- the label of the test or step of the loop at a place
 abbrev pub loop_step_label : ℕ → Label
 loop_step_label place = 3 * place + 2
 
@@ -32,7 +34,7 @@ loop_back_label (Until false test) place = loop_head_label place
 loop_back_label (Until true test) place = loop_step_label place
 loop_back_label (Varying after set step test) place = loop_step_label place
 
--- before the loop with an escape at this place
+-- the tree before the loop with an escape at this place
 abbrev pub loop_start : Control → ℕ → Tree
 loop_start (Times amount) place =
     tree (also (Do (Take place amount)) none) (Jump (loop_head_label place))
@@ -42,9 +44,11 @@ loop_start (Varying after set step test) place =
 
 -- labels in order with their trees
 pub record Node : Type 0 where
+  -- the label
   pub key : Label
   pub tree : Tree
 
+-- the tree at this label
 abbrev pub node : Label → Tree → Node
 node key at_key = record { key = key; tree = at_key }
 
@@ -72,14 +76,19 @@ loop_nodes (Varying true set step test) place body after =
     (by_test test (end_alone after) (tree (also (Do step) none) (Jump (loop_head_label place))))
     ∷ []
 
--- where what leaves a rest goes on: behind its sentence, at the end of its paragraph or of the one
--- with a number, behind
+-- where what leaves a rest goes on: after its sentence, at the end of its paragraph or of the one
+-- with a number, after
 -- the innermost loop that holds it, and at the next turn of that loop
 pub record EscapeTargets : Type 0 where
+  -- after its sentence
   pub sentence : End
+  -- at the end of its paragraph
   pub paragraph : End
+  -- at the end of the paragraph with this number
   pub section : ℕ → End
+  -- after the innermost loop that holds it
   pub loop : End
+  -- at the next turn of that loop
   pub cycle : End
 
 -- within the loop whose continuation and next turn are these
@@ -97,7 +106,7 @@ abbrev pub loop_left : Bool → EscapeTargets → End
 loop_left false leaving = leaving.loop
 loop_left true leaving = leaving.cycle
 
--- what is told, and the place of each paragraph
+-- what lowering knows, and the place of each paragraph
 module _ (told : FlowFacts) (place_of : ℕ → ℕ) where
   -- a statement without an escape, and then the tree; Dead where the statement can't complete
   abbrev pub push : Stmt → Tree → Tree
@@ -106,7 +115,7 @@ module _ (told : FlowFacts) (place_of : ℕ → ℕ) where
       else tree (also (cut told stmt) none) Dead
 
   -- where a rest goes on that begins with this statement, at this place, with that continuation
-  -- behind it
+  -- after it
   abbrev pub leaf_stmt : Stmt → ℕ → End → End
   leaf_stmt (Do act) place after = if skips told act then after else Jump (point place)
   leaf_stmt (Choose picker arms) place after = Jump (point place)
@@ -120,6 +129,7 @@ module _ (told : FlowFacts) (place_of : ℕ → ℕ) where
   leaf_stmt (ExitPerform cycle) place after = Jump (point place)
   leaf_stmt StopRun place after = Stop
 
+  -- where a rest goes on that begins with these statements
   abbrev pub leaf : Stmts → ℕ → End → End
   leaf none place after = after
   leaf (also stmt stmts) place after = leaf_stmt stmt place (leaf stmts (place + size stmt) after)
@@ -131,8 +141,8 @@ module _ (told : FlowFacts) (place_of : ℕ → ℕ) where
       more (end_alone (Jump (point (place_of to)))) (depending others after)
 
   -- the tree of a rest that begins with these statements: where what leaves it goes on, the
-  -- continuation behind the statements,
-  -- and the tree of what stands behind them
+  -- continuation after the statements,
+  -- and the tree of what follows them
   abbrev mutual
     pub build_stmt : Stmt → ℕ → EscapeTargets → End → Tree → Tree
     build_stmt (Do act) place leaving after behind =
@@ -155,6 +165,7 @@ module _ (told : FlowFacts) (place_of : ℕ → ℕ) where
     build_stmt (ExitPerform cycle) place leaving after behind = end_alone (loop_left cycle leaving)
     build_stmt StopRun place leaving after behind = end_alone Stop
 
+    -- the same of several statements
     pub build : Stmts → ℕ → EscapeTargets → End → Tree → Tree
     build none place leaving after behind = behind
     build (also stmt stmts) place leaving after behind =
@@ -172,10 +183,11 @@ module _ (told : FlowFacts) (place_of : ℕ → ℕ) where
         (build_arms false others place leaving after)
 
   -- The nodes of statements, in the order of their labels. The tree of a label inside an arm runs
-  -- on through what stands
-  -- behind the arm; only the arms of a Pick end by the jump that is the continuation.
+  -- on through what comes
+  -- after the arm; only the arms of a Pick end by the jump that is the continuation.
 
   abbrev mutual
+    -- the nodes within a statement at this place
     pub nodes_in : Stmt → ℕ → EscapeTargets → End → Tree → List Node
     nodes_in (Do act) place leaving after behind = []
     nodes_in (Choose picker arms) place leaving after behind =
@@ -191,6 +203,7 @@ module _ (told : FlowFacts) (place_of : ℕ → ℕ) where
     nodes_in (ExitPerform cycle) place leaving after behind = []
     nodes_in StopRun place leaving after behind = []
 
+    -- the nodes of statements from this place on: of each its point, and those within it
     pub nodes : Stmts → ℕ → EscapeTargets → End → Tree → List Node
     nodes none place leaving after behind = []
     nodes (also stmt stmts) place leaving after behind =
@@ -201,6 +214,7 @@ module _ (told : FlowFacts) (place_of : ℕ → ℕ) where
         (build stmts (place + size stmt) leaving after behind)
         ++ nodes stmts (place + size stmt) leaving after behind)
 
+    -- the nodes of the arms' statements
     pub nodes_of_arms : Arms → ℕ → EscapeTargets → End → Tree → List Node
     nodes_of_arms done place leaving after behind = []
     nodes_of_arms (given arm others) place leaving after behind =
@@ -209,6 +223,7 @@ module _ (told : FlowFacts) (place_of : ℕ → ℕ) where
     nodes_of_arms (missing others) place leaving after behind =
         nodes_of_arms others place leaving after behind
 
+    -- the nodes of a loop at this place, and those of the statements of its body
     pub nodes_of_body : Body → Control → ℕ → EscapeTargets → End → List Node
     nodes_of_body (Nested stmts) control place leaving after =
         loop_nodes control place
@@ -220,7 +235,7 @@ module _ (told : FlowFacts) (place_of : ℕ → ℕ) where
         (Jump (loop_back_label control place)) (end_alone (Jump (loop_back_label control place)))
     nodes_of_body (Performed entry exit) control place leaving after = []
 
--- where a range goes on behind a paragraph that isn't its exit
+-- where a range goes on after a paragraph that isn't its exit
 abbrev pub fall_leaf : (ℕ → ℕ) → ℕ → Option Paragraph → End
 fall_leaf place_of number None = Stop
 fall_leaf place_of number (Some next) = Jump (point (place_of (suc number)))
@@ -233,7 +248,8 @@ paragraph_end_target place_of program (Part entry exit) number =
     if exit == number then Return
     else fall_leaf place_of number (slice_get program.paragraphs (suc number))
 
--- at the begin of a paragraph in a range no loop is held: what leaves one leaves the paragraph
+-- where escapes lead at the beginning of a paragraph in a range: no loop is held there, so what
+-- leaves one leaves the paragraph
 abbrev pub leaving_at : (ℕ → ℕ) → Program → Range → ℕ → EscapeTargets
 leaving_at place_of program range number = record {
   sentence = paragraph_end_target place_of program range number;

@@ -13,13 +13,15 @@ abbrev pub total : Paragraph → ℕ
 total [] = 0
 total (sentence ∷ sentences) = sizes sentence + total sentences
 
--- places number the paragraphs and, after each, its statements in text order
+-- the place of the paragraph with this number, where these begin at that place; places number the
+-- paragraphs and, after each, its statements in text order
 abbrev pub place_from : ℕ → List Paragraph → ℕ → ℕ
 place_from place [] number = place
 place_from place (paragraph ∷ others) zero = place
 place_from place (paragraph ∷ others) (suc number) =
     place_from (place + 1 + total paragraph) others number
 
+-- the place of the paragraph with this number
 abbrev pub place_in : Program → ℕ → ℕ
 place_in program number = place_from 0 program.paragraphs number
 
@@ -42,7 +44,7 @@ module _ (told : FlowFacts) (program : Program) where
   nodes_left paragraph (Turns place control left reached body others) = nodes_left paragraph others
   nodes_left paragraph (Cut others) = nodes_left paragraph others
 
-  -- of the paragraphs from this number on, whose first has this place
+  -- the nodes of the paragraphs from this number on, whose first has this place
   abbrev pub nodes_from : Range → ℕ → ℕ → List Paragraph → List Node
   nodes_from range number place [] = []
   nodes_from range number place (paragraph ∷ others) =
@@ -53,6 +55,7 @@ module _ (told : FlowFacts) (program : Program) where
       (rest_from told (place + 1) paragraph) ++ nodes_from range (suc number)
       (place + 1 + total paragraph) others)
 
+  -- all nodes of a range
   abbrev pub nodes_of : Range → List Node
   nodes_of range = nodes_from range 0 0 program.paragraphs
 

@@ -18,11 +18,12 @@ abbrev mutual
   JumpsTo label Stop = ⊥
   JumpsTo label Dead = ⊥
 
+  -- a leaf of one of these trees jumps to the label
   pub ArmsJumpTo : Label → Trees → Type 0
   ArmsJumpTo label no_more = ⊥
   ArmsJumpTo label (more (tree body end) others) = JumpsTo label end ⊎ ArmsJumpTo label others
 
--- from the range's entry the node is come to by jumps
+-- the node is come to by jumps from the range's entry
 pub data IsReached (family : Family) (range : Range) : Label → Type 0 where
   entered : IsReached family range (family.entry range)
   jumped : (label to : Label) → IsReached family range label →
@@ -36,6 +37,7 @@ kept keep family =
       node = λ range label. if keep range label then family.node range label else end_alone Dead;
     }
 
+-- the nodes whose labels are kept
 abbrev pub kept_nodes : (Label → Bool) → List Node → List Node
 kept_nodes keep [] = []
 kept_nodes keep (one ∷ others) =

@@ -8,7 +8,7 @@ use Rattle.control_flow_theory.specs.lowering.Completes.{cuts, leave_sentence, s
 use Rattle.control_flow_theory.specs.lowering.Lower.{loop_head_label, loop_step_label, end_alone, loop_back_label, EscapeTargets, leaf, build, Node, nodes, nodes_in}
 
 -- what is left of a paragraph: statements from a place; the end of a sentence, and whether a NEXT
--- SENTENCE stands in it;
+-- SENTENCE is in it;
 -- a loop with an escape, the turns that are left where they are counted, and of VARYING whether its
 -- test was reached;
 -- and a rest at whose continuation the walk stands
@@ -20,6 +20,8 @@ pub data Rest : Type 0 where
       (others : Rest) → Rest
   Cut : (others : Rest) → Rest
 
+-- how a loop with this control turns: TIMES with so many turns left, VARYING with its test reached
+-- or not
 abbrev pub turning_of : Control → ℕ → Bool → Turning
 turning_of (Times amount) left reached = Counted left
 turning_of (Until after test) left reached = Tests test
@@ -43,7 +45,7 @@ to_turn (Varying false set step test) false place = loop_head_label place
 to_turn (Varying false set step test) true place = loop_step_label place
 to_turn (Varying true set step test) reached place = loop_step_label place
 
--- the rest behind the sentence, at whose continuation the walk stands
+-- the rest after the sentence, at whose continuation the walk stands
 abbrev pub after_sentence : Rest → Rest
 after_sentence Over = Over
 after_sentence (From place stmts others) = after_sentence others
@@ -51,7 +53,7 @@ after_sentence (Sent holds others) = Cut others
 after_sentence (Turns place control left reached body others) = after_sentence others
 after_sentence (Cut others) = after_sentence others
 
--- the rest behind its first loop, at whose continuation the walk stands
+-- the rest after its first loop, at whose continuation the walk stands
 abbrev pub after_loop : Rest → Rest
 after_loop Over = Over
 after_loop (From place stmts others) = after_loop others
@@ -68,7 +70,7 @@ at_loop (Turns place control left reached body others) =
     Turns place control left reached body others
 at_loop (Cut others) = at_loop others
 
--- the same items, where the walk stands at no continuation: the tree of a label runs on
+-- the same items, where the walk is at no continuation: the tree of a label runs on
 abbrev pub uncut : Rest → Rest
 uncut Over = Over
 uncut (From place stmts others) = From place stmts (uncut others)

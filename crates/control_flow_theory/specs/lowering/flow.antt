@@ -1,4 +1,4 @@
--- Flow paths: the source machine itself, in which a list of ways stands in place of the memory.
+-- Flow paths: the source machine itself, in which a list of ways takes the place of the memory.
 pub mod Paths
 -- The rests that a level of a range can come to, and the family that is lowered.
 pub mod Comes

@@ -58,8 +58,8 @@ procedures_of [] graphs = []
 procedures_of (range ∷ ranges) graphs =
     procedure_of range (closed_graph (graphs range)) ∷ procedures_of ranges graphs
 
--- no range stands twice, and each that is performed in a range's level, by a free flow path, stands
--- behind it
+-- no range comes twice, and each that is performed in a range's level, by a free flow path, comes
+-- after it
 abbrev pub CallsStandLater : FlowFacts → Program → List Range → Type 0
 CallsStandLater told program [] = Unit {0}
 CallsStandLater told program (range ∷ ranges) =
@@ -69,6 +69,7 @@ CallsStandLater told program (range ∷ ranges) =
 
 -- The cells that are read and written, whatever is performed and wherever a jump leads.
 module _ (Reads Writes : ℕ → Type 0) where
+  -- any range may be performed
   abbrev pub Anywhere : Range → Type 0
   Anywhere to = Unit {0}
 
@@ -79,6 +80,7 @@ module _ (Reads Writes : ℕ → Type 0) where
   PickerNames (ByCell cell) = ⊥
 
   abbrev mutual
+    -- the statement names only these cells
     pub StmtNames : Stmt → Type 0
     StmtNames (Do act) = fits.ActFits Anywhere Reads Writes act
     StmtNames (Choose picker arms) = PickerNames picker × ArmsName arms
@@ -92,20 +94,24 @@ module _ (Reads Writes : ℕ → Type 0) where
     StmtNames (ExitPerform cycle) = Unit {0}
     StmtNames StopRun = Unit {0}
 
+    -- the statements name only these cells
     pub StmtsName : Stmts → Type 0
     StmtsName none = Unit {0}
     StmtsName (also stmt stmts) = StmtNames stmt × StmtsName stmts
 
+    -- the arms name only these cells
     pub ArmsName : Arms → Type 0
     ArmsName done = Unit {0}
     ArmsName (given arm others) = StmtsName arm × ArmsName others
     ArmsName (missing others) = ArmsName others
 
+    -- the loop's body names only these cells
     pub BodyNames : Body → Type 0
     BodyNames (Nested stmts) = StmtsName stmts
     BodyNames (Performed entry exit) = Unit {0}
 
   abbrev mutual
+    -- the end of a tree names only these cells
     pub EndNames : End → Type 0
     EndNames (Pick picker arms) = PickerNames picker × TreesName arms
     EndNames (Jump to) = Unit {0}
@@ -113,10 +119,12 @@ module _ (Reads Writes : ℕ → Type 0) where
     EndNames Stop = Unit {0}
     EndNames Dead = Unit {0}
 
+    -- the trees name only these cells
     pub TreesName : Trees → Type 0
     TreesName no_more = Unit {0}
     TreesName (more (tree body end) others) = StmtsName body × EndNames end × TreesName others
 
+  -- the tree names only these cells
   abbrev pub TreeNames : Tree → Type 0
   TreeNames (tree body end) = StmtsName body × EndNames end
 
@@ -127,43 +135,51 @@ NamesItsCells graphs range = (label : Label) →
     ((family_of graphs).node range label)
 
 -- how a program is lowered: which ranges return, which nodes are kept, and in which order the
--- ranges stand, main first
+-- ranges come, main first
 pub record IsPlan (told : FlowFacts) (program : Program) (keep : Range → Label → Bool)
     (others : List Range) : Type 0 where
   -- the table names the ranges that are entered and return, and none that doesn't return
   pub returning : NamesWhatReturns told program
+  -- each range that the table names is one whose level comes to its end by a free flow path
   pub exact : (entry exit : ℕ) → told.returning entry exit ≡ true →
       FreelyComes told program (Part entry exit) exit []
-  -- the nodes that are reached are kept, and in a range of the order no other
+  -- the nodes that are reached are kept
   pub reached : AreReached (lowered told program) keep
+  -- in a range of the order no node is kept but those that are reached
   pub just : (range : Range) → In range (Main ∷ others) →
       AreJustReached told program range (keep range)
-  -- each range of the order is entered by a free flow path, and performs later ones alone
+  -- each range of the order is of the program, and is entered by a free flow path
   pub entered : (entry exit : ℕ) → In (Part entry exit) (Main ∷ others) →
       (entry < length program.paragraphs) × IsEntered told program (Part entry exit)
+  -- the ranges come in an order in which each performs later ones alone
   pub order : CallsStandLater told program (Main ∷ others)
 
--- and its counters are numbered
+-- the plan is one for the program, and its counters are numbered
 pub record IsNumberedPlan (told : FlowFacts) (program : Program) (keep : Range → Label → Bool)
     (numbers : Range → ℕ → ℕ) (added : Range → List Added) (others : List Range) : Type 0 where
+  -- it is a plan for the program
   pub plan : IsPlan told program keep others
   -- no two counters of a range have one number, and each that is named is among its cells
   pub apart : KeepsApart numbers
+  -- the graph of each range names only its own cells
   pub names : (range : Range) → In range (Main ∷ others) →
       NamesItsCells (lowered_graphs told program keep numbers added) range
 
+-- the first number, or else the second
 abbrev pub or_first : Option ℕ → Option ℕ → Option ℕ
 or_first (Some arms) others = Some arms
 or_first None others = others
 
--- How many arms the first choice by the cell has that stands there.
+-- How many arms the first choice by the cell has that is there.
 module _ (cell : ℕ) where
+  -- the number of arms, where the choice is by the cell
   abbrev pub picker_arms : Picker → ℕ → Option ℕ
   picker_arms (If test) arms = None
   picker_arms (By chooser) arms = None
   picker_arms (ByCell by) arms = if by == cell then Some arms else None
 
   abbrev mutual
+    -- the number of arms of the first choice by the cell in a statement
     pub stmt_arms : Stmt → Option ℕ
     stmt_arms (Do act) = None
     stmt_arms (Choose picker arms) =
@@ -178,20 +194,23 @@ module _ (cell : ℕ) where
     stmt_arms (ExitPerform cycle) = None
     stmt_arms StopRun = None
 
+    -- the number of arms of the first choice by the cell in these statements
     pub stmts_arms : Stmts → Option ℕ
     stmts_arms none = None
     stmts_arms (also stmt stmts) = or_first (stmt_arms stmt) (stmts_arms stmts)
 
+    -- the number of arms of the first choice by the cell within these arms
     pub arms_arms : Arms → Option ℕ
     arms_arms done = None
     arms_arms (given arm others) = or_first (stmts_arms arm) (arms_arms others)
     arms_arms (missing others) = arms_arms others
 
+    -- the number of arms of the first choice by the cell in a loop's body
     pub body_arms : Body → Option ℕ
     body_arms (Nested stmts) = stmts_arms stmts
     body_arms (Performed entry exit) = None
 
--- where a choice by the cell stands in the body, of so many arms, which are so many at most, it may
+-- where a choice by the cell is in the body, of so many arms, which are so many at most, it may
 -- choose among them, and 0 to the number of its arms may be moved to the cell
 abbrev pub ChoiceServed : Writable → Range → (body : Stmts) → (most : ℕ) → (cell : ℕ) → Type 0
 ChoiceServed kinds range body most cell =
@@ -222,7 +241,7 @@ abbrev pub EachCellServed : Writable → List Range → Graphs → Type 0
 EachCellServed kinds order graphs = (range : Range) → In range order →
     CellsServed kinds range (closed_graph (graphs range)) (size (graphs range).nodes)
 
--- nothing stands in the first arm
+-- there is nothing in the first arm
 abbrev pub StartsEmpty : Arms → Type 0
 StartsEmpty done = Unit {0}
 StartsEmpty (given none others) = Unit {0}
@@ -231,12 +250,15 @@ StartsEmpty (missing others) = Unit {0}
 
 -- what the rules may make of the arms of a choice: as many, and nothing of a first one that is Dead
 pub record MayBecome (trees : Trees) (arms : Arms) : Type 0 where
+  -- there are as many arms
   pub as_many : count_arms arms ≡ tree_count trees
+  -- where the first is Dead, there is nothing in it
   pub dead : IsFirstDead trees → StartsEmpty arms
 
--- The parts that stand in a tree may be written, whatever is performed, wherever a jump leads and
+-- The parts that are in a tree may be written, whatever is performed, wherever a jump leads and
 -- whatever the arms become.
 module _ (naming : Naming) (kinds : Writable) (procedures : List Procedure) (range : Range) where
+  -- a choice among these trees may be written
   abbrev pub PickServed : Picker → Trees → Type 0
   PickServed (If test) trees = TestFits naming kinds procedures range test
   PickServed (By chooser) trees = (arms : Arms) → MayBecome trees arms →
@@ -244,6 +266,7 @@ module _ (naming : Naming) (kinds : Writable) (procedures : List Procedure) (ran
   PickServed (ByCell cell) trees = ⊥
 
   abbrev mutual
+    -- the parts of a statement may be written
     pub StmtServed : Stmt → Type 0
     StmtServed (Do act) = ActFits naming kinds procedures range act
     StmtServed (Choose picker arms) =
@@ -261,20 +284,24 @@ module _ (naming : Naming) (kinds : Writable) (procedures : List Procedure) (ran
     StmtServed (ExitPerform cycle) = Unit {0}
     StmtServed StopRun = Unit {0}
 
+    -- the parts of these statements may be written
     pub StmtsServed : Stmts → Type 0
     StmtsServed none = Unit {0}
     StmtsServed (also stmt stmts) = StmtServed stmt × StmtsServed stmts
 
+    -- the parts of these arms may be written
     pub ArmsServed : Arms → Type 0
     ArmsServed done = Unit {0}
     ArmsServed (given arm others) = StmtsServed arm × ArmsServed others
     ArmsServed (missing others) = ArmsServed others
 
+    -- the parts of a loop's body may be written
     pub BodyServed : Body → Type 0
     BodyServed (Nested stmts) = StmtsServed stmts
     BodyServed (Performed entry exit) = Unit {0}
 
   abbrev mutual
+    -- the parts of a tree's end may be written
     pub EndServed : End → Type 0
     EndServed (Pick picker arms) = PickServed picker arms × TreesServed arms
     EndServed (Jump to) = Unit {0}
@@ -282,15 +309,17 @@ module _ (naming : Naming) (kinds : Writable) (procedures : List Procedure) (ran
     EndServed Stop = Unit {0}
     EndServed Dead = Unit {0}
 
+    -- the parts of these trees may be written
     pub TreesServed : Trees → Type 0
     TreesServed no_more = Unit {0}
     TreesServed (more (tree body end) others) =
         StmtsServed body × EndServed end × TreesServed others
 
+  -- the parts of a tree may be written
   abbrev pub TreeServed : Tree → Type 0
   TreeServed (tree body end) = StmtsServed body × EndServed end
 
--- what stands in the graphs of these ranges may be written
+-- what is in the graphs of these ranges may be written
 abbrev pub GraphsServed : Naming → Writable → List Range → Graphs → Type 0
 GraphsServed naming kinds order graphs = (range : Range) → In range order → (label : Label) →
     TreeServed naming kinds (procedures_of order graphs) range ((family_of graphs).node range label)
@@ -302,11 +331,12 @@ EachIsPerformed procedures = (number : ℕ) (procedure : Procedure) →
     (from : ℕ) × (caller : Procedure) × (from < number) × (slice_get procedures from ≡ Some caller)
     × (stmts_call procedure.range caller.body ≡ true)
 
--- A PERFORM of the range stands in the tree.
+-- A PERFORM of the range is in the tree.
 abbrev mutual
   pub TreeCalls : Range → Tree → Type 0
   TreeCalls range (tree body end) = (stmts_call range body ≡ true) ⊎ EndCalls range end
 
+  -- a tree's end performs the range
   pub EndCalls : Range → End → Type 0
   EndCalls range (Pick picker arms) = TreesCall range arms
   EndCalls range (Jump to) = ⊥
@@ -314,11 +344,12 @@ abbrev mutual
   EndCalls range Stop = ⊥
   EndCalls range Dead = ⊥
 
+  -- one of these trees performs the range
   pub TreesCall : Range → Trees → Type 0
   TreesCall range no_more = ⊥
   TreesCall range (more first others) = TreeCalls range first ⊎ TreesCall range others
 
--- and in one of the nodes
+-- one of the nodes performs the range
 abbrev pub NodesCall : Range → List Node → Type 0
 NodesCall range [] = ⊥
 NodesCall range (node ∷ nodes) = TreeCalls range node.tree ⊎ NodesCall range nodes
@@ -337,20 +368,20 @@ CalledFromEarlier order graphs =
     (from : ℕ) × (caller : Range) × (from < number) × (slice_get order from ≡ Some caller)
     × NodesCall range (graphs caller).nodes
 
--- and so is each closed one
+-- each closed graph is performed, where each graph is
 abbrev pub ClosedGraphsArePerformed : Type 0
 ClosedGraphsArePerformed = (order : List Range) (graphs : Graphs) →
     ((range : Range) → In range order → IsClosed (graphs range)) → CalledFromEarlier order graphs →
     EachIsPerformed (procedures_of order graphs)
 
 -- the bodies hold parts of the program and words on cells that are served, and each choice by a
--- cell stands where the cell isn't zero
+-- cell is where the cell isn't zero
 abbrev pub EachStands : Naming → Writable → List Procedure → Type 0
 EachStands naming kinds procedures = (number : ℕ) (procedure : Procedure) →
     slice_get procedures number ≡ Some procedure →
     StmtsStand naming kinds procedures procedure.range procedure.body
 
--- where what stands in the lowered graphs may be written, and what the rules write of each added
+-- where what is in the lowered graphs may be written, and what the rules write of each added
 -- cell, the closed graphs can be written
 abbrev pub ClosedGraphsStand : Type 0
 ClosedGraphsStand =
@@ -385,8 +416,8 @@ TheHeadline {Memory} {Other} Carries Left World =
     (λ world. structural (alone result) other_left (rendered naming procedures)
     (other_first world))
 
--- so for any parts there is a result of the same behaviour, structured, whose parts do the same and
--- keep cells beside
+-- for any parts of a source there is a structured result of the same behaviour, whose parts do the
+-- same and keep cells beside
 abbrev pub SomeResultBehaves : Type 0 → Type 0 → Type 0 → Type 0
 SomeResultBehaves Memory Left World =
     (acting : Acting Memory) (left : Memory → Left) (first : World → Memory)

@@ -21,11 +21,14 @@ use Rattle.control_flow_theory.specs.main_theorem.Chain.{lowered_graphs, procedu
 use Rattle.control_flow_theory.specs.main_theorem.Numbering.{numbers_by, added_by}
 use Rattle.control_flow_theory.specs.main_theorem.CallsReached.{GivesSome, CalledByPaths}
 
--- how a program is restructured: what lowering is told, which nodes are kept, and in which order
--- the ranges stand behind main
+-- how a program is restructured: what lowering knows, which nodes are kept, and in which order
+-- the ranges follow main
 pub record Plan : Type 0 where
+  -- what lowering knows
   pub told : FlowFacts
+  -- the nodes that are kept, range by range
   pub keep : Range → Label → Bool
+  -- the ranges after main, in order
   pub others : List Range
 
 -- the graphs that the rules begin with, their counters numbered from 0
@@ -34,29 +37,41 @@ graphs_by plan program =
     lowered_graphs plan.told program plan.keep (numbers_by plan.keep program)
     (added_by plan.keep program)
 
--- and the procedures that they leave
+-- the procedures that the rules leave
 abbrev pub procedures_by : Plan → Program → List Procedure
 procedures_by plan program = procedures_of (Main ∷ plan.others) (graphs_by plan program)
 
 -- what the parts of a source do to its memory and what a run leaves; the same of what is written;
 -- and what its parts are called
 pub record Parts (Memory Other Left World : Type 0) : Type 0 where
+  -- what the source's parts do
   pub acting : Acting Memory
+  -- what a run leaves of the source's memory
   pub left : Memory → Left
+  -- the source's memory in a world
   pub first : World → Memory
+  -- what the written parts do
   pub result : Acting Other
+  -- what a run leaves of the result's memory
   pub other_left : Other → Left
+  -- the result's memory in a world
   pub other_first : World → Other
+  -- what the parts are called
   pub naming : Naming
+  -- which parts may be written
   pub kinds : Writable
 
 -- the program is a source with a paragraph, isn't faulty, and the plan is one for it
 pub record CanBeRestructured (plan : Plan) (program : Program) : Type 0 where
+  -- the program is a source
   pub source : IsSource plan.told program
+  -- there is a paragraph
   pub some : 0 < length program.paragraphs
+  -- no flow path comes to a fault
   pub fair : IsFaulty plan.told program → ⊥
   -- each chooser may give some arm
   pub chooses : GivesSome plan.told
+  -- the plan is one for it
   pub planned : IsPlan plan.told program plan.keep plan.others
   -- each range of the order but main is performed by a flow path of an earlier one
   pub called : CalledByPaths plan.told program (Main ∷ plan.others)
@@ -64,16 +79,16 @@ pub record CanBeRestructured (plan : Plan) (program : Program) : Type 0 where
 -- the premises on the parts, and no others
 pub record PartsAgree {Memory Other Left World : Type 0} (Carries : Celled Memory → Other → Type 0)
     (parts : Parts Memory Other Left World) (plan : Plan) (program : Program) : Type 0 where
-  -- the source's parts do what lowering is told of them
+  -- the source's parts do what lowering knows of them
   pub told : IsTold plan.told parts.acting
   -- an own part does the same on both memories and leaves the cells; each word on a cell does what
   -- it says
   pub serves : Serves parts.acting parts.left parts.first parts.result parts.other_left
       parts.other_first Carries
       parts.naming parts.kinds
-  -- what the rules write of the cells that they add may be written, and each part that stands in
-  -- the lowered graphs
+  -- what the rules write of the cells that they add may be written
   pub cells : EachCellServed parts.kinds (Main ∷ plan.others) (graphs_by plan program)
+  -- each part of the lowered graphs may be written
   pub stand : GraphsServed parts.naming parts.kinds (Main ∷ plan.others) (graphs_by plan program)
 
 -- the program that is written
@@ -87,7 +102,7 @@ abbrev pub source_of : {Memory Other Left World : Type 0} → Parts Memory Other
 source_of parts program world =
     meaning (source_machine (alone parts.acting) parts.left program) (parts.first world)
 
--- and what the nested statements of the written program do
+-- what the nested statements of the written program do, in each world
 abbrev pub result_of : {Memory Other Left World : Type 0} → Parts Memory Other Left World →
     Program → Meaning World Event (Ending Left)
 result_of parts program world =
@@ -107,7 +122,7 @@ WhatIsWrittenBehavesAlike {Memory} {Other} Carries Left World =
 abbrev pub Beside : Type 0 → Type 0 → Type 0 → Type 0
 Beside Memory Left World = Parts Memory (Celled Memory) Left World
 
--- whatever a source's parts do, there are parts of a result that agree with them
+-- there are parts of a result that agree with a source's parts, whatever these do
 abbrev pub SomePartsAgree : Type 0 → Type 0 → Type 0 → Type 0
 SomePartsAgree Memory Left World =
     (acting : Acting Memory) (left : Memory → Left) (first : World → Memory)

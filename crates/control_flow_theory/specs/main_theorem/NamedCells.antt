@@ -14,12 +14,14 @@ use Rattle.control_flow_theory.specs.main_theorem.Chain.{TreeNames, NamesItsCell
 
 -- It holds of the place of each loop by TIMES over statements.
 module _ (Holds : ℕ → Type 0) where
+  -- it holds of a loop's place, where its control is TIMES
   abbrev pub ControlCounts : Control → ℕ → Type 0
   ControlCounts (Times amount) place = Holds place
   ControlCounts (Until after test) place = Unit {0}
   ControlCounts (Varying after set step test) place = Unit {0}
 
   abbrev mutual
+    -- it holds of each such loop in a statement at this place
     pub StmtCounts : Stmt → ℕ → Type 0
     StmtCounts (Do act) place = Unit {0}
     StmtCounts (Choose picker arms) place = ArmsCount arms (place + 1)
@@ -33,31 +35,38 @@ module _ (Holds : ℕ → Type 0) where
     StmtCounts (ExitPerform cycle) place = Unit {0}
     StmtCounts StopRun place = Unit {0}
 
+    -- it holds of each such loop in statements from this place on
     pub StmtsCount : Stmts → ℕ → Type 0
     StmtsCount none place = Unit {0}
     StmtsCount (also stmt stmts) place =
         StmtCounts stmt place × StmtsCount stmts (place + size stmt)
 
+    -- it holds of each such loop in arms from this place on
     pub ArmsCount : Arms → ℕ → Type 0
     ArmsCount done place = Unit {0}
     ArmsCount (given arm others) place = StmtsCount arm place × ArmsCount others (place + sizes arm)
     ArmsCount (missing others) place = ArmsCount others place
 
+    -- it holds of the loop at this place and of each such loop in its body; a loop over a range has
+    -- no counter
     pub BodyCounts : Body → Control → ℕ → Type 0
     BodyCounts (Nested stmts) control place =
         ControlCounts control place × StmtsCount stmts (place + 1)
     BodyCounts (Performed entry exit) control place = Unit {0}
 
+  -- it holds of each such loop in a paragraph whose sentences begin at this place
   abbrev pub ParagraphCounts : Paragraph → ℕ → Type 0
   ParagraphCounts [] place = Unit {0}
   ParagraphCounts (sentence ∷ sentences) place =
       StmtsCount sentence place × ParagraphCounts sentences (place + sizes sentence)
 
+  -- it holds of each such loop in paragraphs from this place on
   abbrev pub ParagraphsCount : List Paragraph → ℕ → Type 0
   ParagraphsCount [] place = Unit {0}
   ParagraphsCount (paragraph ∷ others) place =
       ParagraphCounts paragraph (place + 1) × ParagraphsCount others (place + 1 + total paragraph)
 
+  -- it holds of each such loop in a program
   abbrev pub ProgramCounts : Program → Type 0
   ProgramCounts program = ParagraphsCount program.paragraphs 0
 
@@ -80,8 +89,8 @@ abbrev pub IsCounted : (Label → Bool) → (ℕ → ℕ) → List Added → ℕ
 IsCounted keep number added place =
     keep (lower.loop_head_label place) ≡ true → kind_at added (number place) ≡ Some Count
 
--- so where the counters of kept loops are numbered and listed, each kept node names only cells of
--- its range
+-- where the counters of kept loops are numbered and listed, each kept node names only cells of its
+-- range
 abbrev pub NumberedCountersAreNamed : Type 0
 NumberedCountersAreNamed =
     (told : FlowFacts) (program : Program) (keep : Range → Label → Bool) (numbers : Range → ℕ → ℕ)

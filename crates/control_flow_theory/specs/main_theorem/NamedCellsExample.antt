@@ -16,6 +16,7 @@ counted_kept range label = if label == 0 then true else (if label == 13 then tru
 abbrev pub counter_first : Range → ℕ → ℕ
 counter_first range cell = if cell == 4 then 0 else (if cell == 0 then 4 else cell)
 
+-- each range has one counter
 abbrev pub one_counter : Range → List Added
 one_counter range = Count ∷ []
 

@@ -18,7 +18,7 @@ use Rattle.control_flow_theory.specs.main_theorem.Chain.{IsNumberedPlan, lowered
 abbrev pub again : Program
 again = record { paragraphs = (also (Go 0) none ∷ []) ∷ [] }
 
--- no range is named, since none is performed; a chooser gives one arm, and none stands in the
+-- no range is named, since none is performed; a chooser gives one arm, and none is in the
 -- program
 abbrev pub again_told : FlowFacts
 again_told =
@@ -29,23 +29,25 @@ again_told =
       width = λ chooser. 1;
     }
 
--- of main, the paragraph's node
+-- the nodes that are kept: of main, the paragraph's node
 abbrev pub again_kept : Range → Label → Bool
 again_kept Main label = label == 0
 again_kept (Part entry exit) label = true
 
+-- each cell keeps its number
 abbrev pub same_numbers : Range → ℕ → ℕ
 same_numbers range cell = cell
 
+-- no range has an added cell
 abbrev pub no_added : Range → List Added
 no_added range = []
 
--- the plan stands, of a source that isn't faulty
+-- this is a plan, of a source that isn't faulty
 abbrev pub APlanCanBeMade : Type 0
 APlanCanBeMade = IsSource again_told again × (IsFaulty again_told again → ⊥)
     × IsNumberedPlan again_told again again_kept same_numbers no_added []
 
--- so for any parts that do what is told, there is a structured result that behaves alike
+-- for any parts that do what is known of them, there is a structured result that behaves alike
 abbrev pub ThePlanIsFollowed : Type 0 → Type 0 → Type 0 → Type 0
 ThePlanIsFollowed Memory Left World =
     (acting : Acting Memory) (left : Memory → Left) (first : World → Memory)

@@ -12,23 +12,28 @@ use Rattle.control_flow_theory.specs.rendering.Procedures.{Writable, AreProcedur
 abbrev pub flag : ℕ
 flag = 0
 
+-- the cell that is a state
 abbrev pub state : ℕ
 state = 1
 
+-- the cell that holds the turns that are left of a TIMES
 abbrev pub count : ℕ
 count = 2
 
+-- the cell that holds the number of an exit
 abbrev pub exit_number : ℕ
 exit_number = 3
 
+-- READ with an AT END
 abbrev pub reading : Chooser
 reading = Read 7 None true
 
+-- arithmetic with a phrase on size errors
 abbrev pub adding : Chooser
 adding = Arith (calc.Add []) []
 
 -- a READ until its end, an IF that has nothing to do where it holds, arithmetic that does nothing
--- behind it, two nodes that go to each other, a TIMES that is left early, a loop with two exits,
+-- after it, two nodes that go to each other, a TIMES that is left early, a loop with two exits,
 -- and a loop over a procedure
 abbrev pub main_body : Stmts
 main_body =
@@ -60,6 +65,7 @@ main_body =
     (also (Choose (ByCell exit_number) (given (also (Do (Own (says 3))) none) (given none done)))
     (also (Loop (Times (amount 5)) (Performed 9 9)) none))))))))))))
 
+-- main, a range that performs the other one, and a range with nothing to do
 abbrev pub family_procedures : List Procedure
 family_procedures =
     record { range = Main; body = main_body; end = Stop }
@@ -67,20 +73,25 @@ family_procedures =
     ∷ record { range = Part 9 9; body = none; end = Return }
     ∷ []
 
+-- the tree of a range by its entry
 abbrev pub part_tree : ℕ → Tree
 part_tree entry = if entry == 4 then tree (also (Perform 9 9) none) Return else tree none Return
 
+-- the tree of each range
 abbrev pub node_of : Range → Tree
 node_of Main = tree main_body Stop
 node_of (Part entry exit) = part_tree entry
 
+-- each range has its one tree
 abbrev pub small_family : Family
 small_family = record { entry = λ range. 0; node = λ range label. node_of range }
 
+-- the range is main
 abbrev pub is_main : Range → Bool
 is_main Main = true
 is_main (Part entry exit) = false
 
+-- every part may be written, and main's cells are what they are for
 abbrev pub small_kinds : Writable
 small_kinds = record {
   simples = λ simple. true;
@@ -94,18 +105,20 @@ small_kinds = record {
   chooses = λ range cell arms. if cell == state then true else cell == exit_number;
 }
 
+-- an arm with nothing to do holds CONTINUE where it must be written, and else goes
 abbrev pub must : Bool → Empty
 must true = Continues
 must false = Goes
 
--- the first arm of IF and of arithmetic is always written, each arm of a choice by a state, and all
--- but the last by an exit number
+-- what becomes of an empty arm: the first of IF and of arithmetic is written, each of a choice by a
+-- state, and the first of one by an exit number; others go
 abbrev pub always : Range → Picker → ℕ → Empty
 always range (If test) arm = must (arm == 0)
 always range (By (Arith calc into)) arm = must (arm == 0)
 always range (By chooser) arm = Goes
 always range (ByCell cell) arm = must (if cell == state then true else arm == 0)
 
+-- the naming whose empty arms are so, and whose choices by the state have no WHEN OTHER
 abbrev pub named : Naming → Naming
 named naming = record naming {
   lacks_other = λ range cell. cell == state;
@@ -155,12 +168,15 @@ written_program n = record {
       ∷ [];
 }
 
+-- the family is written as that program, under any naming
 abbrev pub IsWrittenAs : Type 0
 IsWrittenAs = (naming : Naming) → rendered (named naming) family_procedures ≡ written_program naming
 
+-- the family can be written
 abbrev pub IsWritable : Type 0
 IsWritable =
     (naming : Naming) → AreProcedures small_family (named naming) small_kinds family_procedures
 
+-- the written program is structured
 abbrev pub IsThenStructured : Type 0
 IsThenStructured = (naming : Naming) → IsStructured (written_program naming)

@@ -84,7 +84,7 @@ RenderingKeepsMeaning {Memory} {Other} Carries Left World =
     (λ world. structural (alone result) other_left (rendered naming procedures)
     (other_first world))
 
--- for any parts there are a naming and parts of a result that serve: the premises of a written
+-- there are a naming and parts of a result that serve any parts, so the premises of a written
 -- program can be met
 abbrev pub AnyPartsCanBeServed : Type 0 → Type 0 → Type 0 → Type 0
 AnyPartsCanBeServed Memory Left World =
@@ -99,10 +99,15 @@ AnyPartsCanBeServed Memory Left World =
 pub record IsRestructured {Memory Left : Type 0} (acting : Acting Memory) (left : Memory → Left)
     (program : Program) (naming : Naming) (kinds : Writable) (procedures : List Procedure)
     : Type 0 where
+  -- the family that the source is lowered to
   pub lowered : Family
+  -- the family that the rules make of it
   pub shaped : Family
+  -- the first walks as the source runs
   pub lowering : Follows acting left program lowered
+  -- the second walks as the first
   pub shaping : WalkAlike acting left lowered shaped
+  -- these are its procedures
   pub are : AreProcedures shaped naming kinds procedures
 
 -- the headline: the written program is structured, and behaves as the source

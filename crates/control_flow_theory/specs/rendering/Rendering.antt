@@ -10,7 +10,7 @@ pub record Procedure : Type 0 where
   pub body : Stmts
   pub end : End
 
--- the place of a range in the list, from 0; past the last one, where it doesn't stand there
+-- the place of a range in the list, from 0; past the last one, where it isn't there
 abbrev pub place_of : List Procedure → Range → ℕ
 place_of [] range = 0
 place_of (procedure ∷ others) range =
@@ -28,23 +28,32 @@ pub data Empty : Type 0 where
 pub record Naming : Type 0 where
   -- CONTINUE
   pub nothing : Simple
+  -- a statement of the program's own
   pub simple : Simple → Simple
+  -- a condition of the program
   pub cond : Cond → Cond
-  -- what chooses, by which of its arms stand there
+  -- what chooses, by which of its arms are there
   pub chooser : Chooser → (arms : List Bool) → Chooser
+  -- an operand of TIMES
   pub amount : Amount → Amount
+  -- MOVE a number TO the cell's item
   pub set : Range → (cell value : ℕ) → Simple
+  -- MOVE the operand of TIMES TO the cell's item
   pub take : Range → (cell : ℕ) → Amount → Simple
+  -- SUBTRACT 1 FROM the cell's item
   pub lower : Range → (cell : ℕ) → Simple
+  -- the cell's item equals the number
   pub is : Range → (cell value : ℕ) → Cond
+  -- the cell's item is above zero
   pub above : Range → (cell : ℕ) → Cond
   -- EVALUATE of the item, with these arms, written or left out
   pub by_cell : Range → (cell : ℕ) → (arms : List Bool) → Chooser
-  -- whether each arm of it is a WHEN: a missing WHEN OTHER stands behind them
+  -- whether each arm of it is a WHEN: a missing WHEN OTHER follows them
   pub lacks_other : Range → (cell : ℕ) → Bool
   -- what becomes of the arm with this number, where there is nothing to do in it
   pub empty : Range → Picker → ℕ → Empty
 
+-- how many arms there are, with the missing ones
 abbrev pub count_arms : Arms → ℕ
 count_arms done = 0
 count_arms (given arm others) = suc (count_arms others)
@@ -55,14 +64,14 @@ abbrev pub required : Simple → Stmts → Stmts
 required nothing none = also (Do (Own nothing)) none
 required nothing (also stmt stmts) = also stmt stmts
 
--- whether the arm stands there
+-- whether the arm is there
 abbrev pub arm_stands : Empty → (was_given : Bool) → Stmts → Bool
 arm_stands empty was_given (also stmt stmts) = true
 arm_stands Continues was_given none = true
 arm_stands Stays was_given none = was_given
 arm_stands Goes was_given none = false
 
--- which of these arms stand there, the first of which has this number
+-- whether each of these arms is there, the first of which has this number
 abbrev pub standing : (ℕ → Empty) → ℕ → Arms → List Bool
 standing empty first done = []
 standing empty first (given arm others) =
@@ -78,45 +87,51 @@ written_arm nothing Stays true none others = given (also (Do (Own nothing)) none
 written_arm nothing Stays false none others = missing others
 written_arm nothing Goes was_given none others = missing others
 
--- the arms, and behind them one that is missing
+-- the arms, and after them one that is missing
 abbrev pub and_missing : Arms → Arms
 and_missing done = missing done
 and_missing (given arm others) = given arm (and_missing others)
 and_missing (missing others) = missing (and_missing others)
 
+-- the arms, and a missing WHEN OTHER where there is none among them
 abbrev pub whole_arms : (lacks_other : Bool) → Arms → Arms
 whole_arms true arms = and_missing arms
 whole_arms false arms = arms
 
+-- one list of statements after the other
 abbrev pub then_stmts : Stmts → Stmts → Stmts
 then_stmts none more = more
 then_stmts (also stmt stmts) more = also stmt (then_stmts stmts more)
 
 -- the statements of a range, with the places of all ranges
 module _ (naming : Naming) (place : Range → ℕ) (range : Range) where
+  -- an act as it is written
   abbrev pub written_act : Act → Act
   written_act (Own simple) = Own (naming.simple simple)
   written_act (Set cell value) = Own (naming.set range cell value)
   written_act (Take cell amount) = Own (naming.take range cell amount)
   written_act (Lower cell) = Own (naming.lower range cell)
 
+  -- a test as it is written
   abbrev pub written_test : Test → Test
   written_test (Holds cond) = Holds (naming.cond cond)
   written_test (Not test) = Not (written_test test)
   written_test (Is cell value) = Holds (naming.is range cell value)
   written_test (Above cell) = Holds (naming.above range cell)
 
+  -- what chooses, as it is written
   abbrev pub written_picker : Picker → (arms : List Bool) → Picker
   written_picker (If test) arms = If (written_test test)
   written_picker (By chooser) arms = By (naming.chooser chooser arms)
   written_picker (ByCell cell) arms = By (naming.by_cell range cell arms)
 
-  -- a choice of the program has its last arm, given or missing
+  -- a choice by this has no WHEN OTHER; one of the program has its last arm, given or missing
   abbrev pub picker_lacks : Picker → Bool
   picker_lacks (If test) = false
   picker_lacks (By chooser) = false
   picker_lacks (ByCell cell) = naming.lacks_other range cell
 
+  -- the control of a loop as it is written
   abbrev pub written_control : Control → Control
   written_control (Times amount) = Times (naming.amount amount)
   written_control (Until after test) = Until after (written_test test)
@@ -124,7 +139,7 @@ module _ (naming : Naming) (place : Range → ℕ) (range : Range) where
       Varying after (written_act set) (written_act step) (written_test test)
 
   abbrev mutual
-    -- each PERFORM names the paragraph of its range
+    -- a statement as it is written; each PERFORM names the paragraph of its range
     pub written_stmt : Stmt → Stmt
     written_stmt (Do act) = Do (written_act act)
     written_stmt (Choose picker arms) =
@@ -140,11 +155,12 @@ module _ (naming : Naming) (place : Range → ℕ) (range : Range) where
     written_stmt (ExitPerform cycle) = ExitPerform cycle
     written_stmt StopRun = StopRun
 
+    -- statements as they are written
     pub written_stmts : Stmts → Stmts
     written_stmts none = none
     written_stmts (also stmt stmts) = also (written_stmt stmt) (written_stmts stmts)
 
-    -- the first of these arms has this number
+    -- arms as they are written, the first of which has this number
     pub written_arms : (ℕ → Empty) → ℕ → Arms → Arms
     written_arms empty first done = done
     written_arms empty first (given arm others) =
@@ -153,6 +169,7 @@ module _ (naming : Naming) (place : Range → ℕ) (range : Range) where
     written_arms empty first (missing others) =
         written_arm naming.nothing (empty first) false none (written_arms empty (suc first) others)
 
+    -- the body of a loop as it is written
     pub written_body : Body → Body
     written_body (Nested stmts) = Nested (required naming.nothing (written_stmts stmts))
     written_body (Performed entry exit) =
@@ -167,13 +184,14 @@ closing (Part entry exit) (Jump to) = none
 closing (Part entry exit) Return = none
 closing (Part entry exit) Dead = none
 
--- one sentence
+-- the paragraph of a procedure: one sentence
 abbrev pub written_paragraph : Naming → (Range → ℕ) → Procedure → Paragraph
 written_paragraph naming place procedure =
     required naming.nothing
     (then_stmts (written_stmts naming place procedure.range procedure.body)
     (closing procedure.range procedure.end)) ∷ []
 
+-- the program that is written of these procedures, each a paragraph
 abbrev pub rendered : Naming → List Procedure → Program
 rendered naming procedures =
     record { paragraphs = map (written_paragraph naming (place_of procedures)) procedures }

@@ -10,7 +10,7 @@ use Rattle.control_flow_theory.specs.rendering.Procedures.{Writable}
 abbrev pub SameArm : (arms first second : ℕ) → Type 0
 SameArm arms first second = (first ≡ second) ⊎ ((arms ≤ first) × (arms ≤ second))
 
--- two parts give alike values and show the same, and the memories behind them go together; or both
+-- two parts give alike values and show the same, and the memories after them go together; or both
 -- end the run, in the same way
 abbrev pub Alike : {Memory Other Left Value : Type 0} → (Memory → Left) → (Other → Left) →
     (Celled Memory → Other → Type 0) → (Value → Value → Type 0) →
@@ -30,7 +30,7 @@ pub record Serves {Memory Other Left World : Type 0} (acting : Acting Memory) (l
   -- the first memories, in which each cell is zero
   pub starts : (world : World) →
       Carries (record { own = first world; cells = λ range cell. 0 }) (other_first world)
-  -- the same is left behind
+  -- the same is left
   pub leaves : (memory : Celled Memory) (other : Other) → Carries memory other →
       left memory.own ≡ other_left other
   -- CONTINUE does nothing
@@ -43,47 +43,54 @@ pub record Serves {Memory Other Left World : Type 0} (acting : Acting Memory) (l
       Alike {Value = Unit {0}} left other_left Carries (λ a b. Unit {0})
       (keeping (own_is memory) (acting.act simple memory.own))
       (result.act (naming.simple simple) other)
+  -- a condition of the program holds alike
   pub cond : (cond : Cond) (memory : Celled Memory) (other : Other) → kinds.conds cond ≡ true →
       Carries memory other →
       Alike left other_left Carries (◌≡◌ {A = Bool})
       (keeping (own_is memory) (acting.test cond memory.own))
       (result.test (naming.cond cond) other)
+  -- a choice of the program takes the same arm
   pub chooser : (chooser : Chooser) (arms : List Bool) (memory : Celled Memory) (other : Other) →
       kinds.choosers chooser arms ≡ true → Carries memory other →
       Alike left other_left Carries (SameArm (length arms))
       (keeping (own_is memory) (acting.choose chooser memory.own))
       (result.choose (naming.chooser chooser arms) other)
+  -- an operand of TIMES counts alike
   pub amount : (amount : Amount) (memory : Celled Memory) (other : Other) →
       kinds.amounts amount ≡ true → Carries memory other →
       Alike left other_left Carries (◌≡◌ {A = ℕ})
       (keeping (own_is memory) (acting.count amount memory.own))
       (result.count (naming.amount amount) other)
-  -- a word on a cell does what it says, and leaves all else
+  -- a cell is set to the number, and all else stays
   pub set : (range : Range) (cell value : ℕ) (memory : Celled Memory) (other : Other) →
       kinds.sets range cell value ≡ true → Carries memory other →
       Alike {Value = Unit {0}} left other_left Carries (λ a b. Unit {0})
       (Got [] tt (put range cell value memory)) (result.act (naming.set range cell value) other)
+  -- the cell takes what the operand of TIMES holds
   pub take : (range : Range) (cell : ℕ) (amount : Amount) (memory : Celled Memory) (other : Other) →
       kinds.counts range cell ≡ true → kinds.amounts amount ≡ true → Carries memory other →
       Alike {Value = Unit {0}} left other_left Carries (λ a b. Unit {0})
       (taken range cell memory (acting.count amount memory.own))
       (result.act (naming.take range cell amount) other)
+  -- the cell is lowered by one
   pub lower : (range : Range) (cell : ℕ) (memory : Celled Memory) (other : Other) →
       kinds.counts range cell ≡ true → Carries memory other →
       Alike {Value = Unit {0}} left other_left Carries (λ a b. Unit {0})
       (Got [] tt (put range cell (memory.cells range cell - 1) memory))
       (result.act (naming.lower range cell) other)
+  -- the cell is compared with the number
   pub is : (range : Range) (cell value : ℕ) (memory : Celled Memory) (other : Other) →
       kinds.compares range cell value ≡ true → Carries memory other →
       Alike left other_left Carries (◌≡◌ {A = Bool})
       (Got [] (memory.cells range cell == value) memory)
       (result.test (naming.is range cell value) other)
+  -- the cell is tested for being above zero
   pub above : (range : Range) (cell : ℕ) (memory : Celled Memory) (other : Other) →
       kinds.aboves range cell ≡ true → Carries memory other →
       Alike left other_left Carries (◌≡◌ {A = Bool})
       (Got [] (is_above (memory.cells range cell)) memory)
       (result.test (naming.above range cell) other)
-  -- nothing is said of a choice by a cell that is zero
+  -- nothing is claimed of a choice by a cell that is zero
   pub by_cell : (range : Range) (cell : ℕ) (arms : List Bool) (arm : ℕ) (memory : Celled Memory)
       (other : Other) → kinds.chooses range cell (length arms) ≡ true →
       memory.cells range cell ≡ suc arm → Carries memory other →

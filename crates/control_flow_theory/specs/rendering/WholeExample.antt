@@ -13,13 +13,15 @@ use Rattle.control_flow_theory.specs.rendering.Procedures.{Writable}
 use Rattle.control_flow_theory.specs.semantics.Examples.{say, one, jumping}
 use Rattle.control_flow_theory.specs.semantics.Parts.{small}
 
+-- a jump over a paragraph
 abbrev pub jumping_program : Program
 jumping_program = record { paragraphs = jumping }
 
--- the first paragraph and the third, one behind the other
+-- the first paragraph and the third, one after the other
 abbrev pub jumping_procedure : Procedure
 jumping_procedure = record { range = Main; body = also (say 11) (one (say 13)); end = Stop }
 
+-- each range has that procedure as its one tree
 abbrev pub jumping_family : Family
 jumping_family =
     record {
@@ -27,6 +29,7 @@ jumping_family =
       node = λ range label. tree jumping_procedure.body jumping_procedure.end;
     }
 
+-- every part may be written, and no range has a cell
 abbrev pub no_cells : Writable
 no_cells = record {
   simples = λ simple. true;

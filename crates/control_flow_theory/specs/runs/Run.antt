@@ -6,6 +6,7 @@ pub data Standing (End : Type 0) : Type 0 where
   Going : Standing End
   Over : End → Standing End
 
+-- what a run has shown, and how it stands
 pub record Run (Event End : Type 0) : Type 0 where
   pub trace : List Event
   pub standing : Standing End
@@ -20,5 +21,7 @@ Begins {Event} first whole = (more : List Event) × (whole ≡ first ++ more)
 
 -- the second run shows all that the first shows, and where the first is over it is the same run
 pub record Covers {Event End : Type 0} (first second : Run Event End) : Type 0 where
+  -- it shows all that the first shows
   pub shows : Begins first.trace second.trace
+  -- where the first is over, it is the same run
   pub ends : IsOver first → second ≡ first

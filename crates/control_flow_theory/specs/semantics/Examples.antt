@@ -10,12 +10,15 @@ use Rattle.control_flow_theory.specs.semantics.Structural.{structural}
 use Rattle.control_flow_theory.specs.semantics.Graph.{tree, Stop, Dead, Family}
 use Rattle.control_flow_theory.specs.semantics.Walk.{main_machine}
 
+-- an act of the program
 abbrev pub act : Simple → Stmt
 act simple = Do (Own simple)
 
+-- DISPLAY of one byte
 abbrev pub say : ℕ → Stmt
 say byte = act (says byte)
 
+-- one statement alone
 abbrev pub one : Stmt → Stmts
 one stmt = also stmt none
 
@@ -28,29 +31,35 @@ abbrev pub each : List Stmt → Paragraph
 each [] = []
 each (stmt ∷ stmts) = one stmt ∷ each stmts
 
--- from N, after so many steps
+-- the run of these paragraphs from N, after so many steps
 abbrev pub after_steps : List Paragraph → ℕ → ℕ → Run ℕ
 after_steps paragraphs n steps =
     meaning (source_machine small_doing (λ n. n) (record { paragraphs = paragraphs })) n steps
 
+-- the nested meaning of a program from N, within so many units
 abbrev pub within_units : List Paragraph → ℕ → ℕ → Run ℕ
 within_units paragraphs n units =
     structural small_doing (λ n. n) (record { paragraphs = paragraphs }) n units
 
+-- the events of so many displays of one byte
 abbrev pub events : List ℕ → List Event
 events [] = []
 events (byte ∷ bytes) = (byte ∷ []) ∷ events bytes
 
+-- a run that showed these bytes and is still going
 abbrev pub goes : List ℕ → Run ℕ
 goes bytes = record { trace = events bytes; standing = Going }
 
+-- a run that showed these bytes and stopped normally, with this N
 abbrev pub stopped : List ℕ → ℕ → Run ℕ
 stopped bytes n = record { trace = events bytes; standing = Over (Stopped Normally n) }
 
+-- a run that showed these bytes and met an overlap at the end of this paragraph
 abbrev pub overlaps : List ℕ → ℕ → Run ℕ
 overlaps bytes paragraph =
     record { trace = events bytes; standing = Over (Faulted (Overlap paragraph)) }
 
+-- a run that showed these bytes and met a reentry at this paragraph
 abbrev pub reenters : List ℕ → ℕ → Run ℕ
 reenters bytes paragraph =
     record { trace = events bytes; standing = Over (Faulted (Reentry paragraph)) }
@@ -59,6 +68,7 @@ reenters bytes paragraph =
 abbrev pub jumping : List Paragraph
 jumping = each (say 11 ∷ Go 2 ∷ []) ∷ each (say 12 ∷ []) ∷ each (say 13 ∷ StopRun ∷ []) ∷ []
 
+-- the same without the jump
 abbrev pub jumps_nested : List Paragraph
 jumps_nested = (also (say 11) (also (say 13) (one StopRun)) ∷ []) ∷ []
 
@@ -68,6 +78,7 @@ overlapping =
     each (Perform 1 3 ∷ StopRun ∷ []) ∷ each (say 11 ∷ []) ∷ each (Perform 4 4 ∷ [])
     ∷ each (say 13 ∷ []) ∷ each (Go 3 ∷ []) ∷ []
 
+-- a jump by N to one of two paragraphs, or on to the next statement
 abbrev pub depending : List Paragraph
 depending =
     each (GoDepending (1 ∷ 2 ∷ []) (on_item 0) ∷ say 10 ∷ StopRun ∷ [])
@@ -78,11 +89,12 @@ abbrev pub two_exits : List Paragraph
 two_exits = each (Perform 1 2 ∷ Perform 1 3 ∷ StopRun ∷ []) ∷ each (say 11 ∷ [])
     ∷ each (say 12 ∷ []) ∷ each (say 13 ∷ []) ∷ []
 
--- a range whose exit stands before its entry
+-- a range whose exit comes before its entry
 abbrev pub backward : List Paragraph
 backward = each (Perform 3 1 ∷ StopRun ∷ []) ∷ each (say 11 ∷ []) ∷ each (say 12 ∷ [])
     ∷ each (say 13 ∷ Go 1 ∷ []) ∷ []
 
+-- NEXT SENTENCE where N is 1
 abbrev pub next_sentence : List Paragraph
 next_sentence =
     (also (when 1 NextSentence) (one (say 20))
@@ -96,16 +108,19 @@ times_left =
     (also (act shows) (one (when 1 (Go 1)))))) ∷ [])
     ∷ each (StopRun ∷ []) ∷ []
 
+-- PERFORM of a paragraph N times
 abbrev pub times_nested : List Paragraph
 times_nested =
     (also (Loop (Times (amount 0)) (Performed 1 1)) (one StopRun) ∷ []) ∷ (one (say 11) ∷ []) ∷ []
 
+-- N is lowered and shown until it is zero, tested before or after
 abbrev pub until_zero : Bool → List Paragraph
 until_zero after =
     (also (Loop (Until after (Holds (is 0))) (Nested (also (act lowers) (one (act shows)))))
     (one StopRun) ∷ [])
     ∷ []
 
+-- N is shown until it is zero, and lowered by VARYING, tested before or after
 abbrev pub varying_down : Bool → List Paragraph
 varying_down after =
     (also (Loop (Varying after (Own continues) (Own lowers) (Holds (is 0)))
@@ -113,6 +128,7 @@ varying_down after =
     (one StopRun)
     ∷ []) ∷ []
 
+-- what the programs with jumps show, and how they end
 abbrev pub SourcesRunAs : Type 0
 SourcesRunAs =
     (after_steps jumping 0 5 ≡ goes (11 ∷ 13 ∷ []))
@@ -131,6 +147,7 @@ SourcesRunAs =
     × (after_steps times_left 0 100 ≡ stopped [] 0)
     × (after_steps (each (Go 0 ∷ []) ∷ []) 0 100 ≡ goes [])
 
+-- what the nested programs show within these units, and how they end
 abbrev pub NestedRunAs : Type 0
 NestedRunAs =
     (within_units jumps_nested 0 2 ≡ goes (11 ∷ 13 ∷ []))
@@ -144,7 +161,7 @@ NestedRunAs =
     × (within_units (varying_down false) 2 6 ≡ stopped (2 ∷ 1 ∷ []) 0)
     × (within_units (varying_down true) 2 8 ≡ stopped (2 ∷ 1 ∷ 0 ∷ []) 0)
 
--- by steps as by nesting
+-- these programs show the same by steps as by nesting
 abbrev pub BothRunAlike : Type 0
 BothRunAlike =
     (after_steps times_nested 2 100 ≡ stopped (11 ∷ 11 ∷ []) 2)
@@ -180,9 +197,11 @@ state_family = record {
       done))))))))) Dead;
 }
 
+-- the walk of a family from N, after so many steps
 abbrev pub walked_steps : Family → ℕ → ℕ → Run ℕ
 walked_steps family n steps = meaning (main_machine small (λ n. n) family) n steps
 
+-- what the two families show, and how they end
 abbrev pub FamiliesWalkAs : Type 0
 FamiliesWalkAs =
     (walked_steps times_family 3 100 ≡ stopped (2 ∷ 1 ∷ []) 1)
@@ -202,7 +221,7 @@ loop_left cycle =
     ∷ one (say 99) ∷ [])
     ∷ []
 
--- of two loops it leaves the inner one
+-- two loops, of which EXIT PERFORM leaves the inner one
 abbrev pub inner_left : List Paragraph
 inner_left =
     (one (Loop (Until false (Holds (is 5))) (Nested
@@ -222,7 +241,7 @@ section_performed =
     each (Perform 1 2 ∷ say 64 ∷ StopRun ∷ []) ∷ each (say 65 ∷ ExitSection 2 ∷ [])
     ∷ each (say 66 ∷ []) ∷ []
 
--- from within a loop EXIT PARAGRAPH leaves the loop and the next sentence
+-- a loop from within which EXIT PARAGRAPH leaves the loop and the next sentence
 abbrev pub paragraph_left : List Paragraph
 paragraph_left =
     (one (Loop (Until false (Holds (is 5)))
@@ -230,6 +249,7 @@ paragraph_left =
     ∷ one (say 98) ∷ [])
     ∷ each (say 99 ∷ []) ∷ []
 
+-- what the programs with EXIT statements show, and how they end
 abbrev pub JumpsRunAs : Type 0
 JumpsRunAs =
     (after_steps (loop_left false) 0 100 ≡ stopped (1 ∷ 2 ∷ 99 ∷ []) 3)

@@ -12,6 +12,8 @@ mutual
   pub data Tree : Type 0 where
     tree : (body : Stmts) → (end : End) → Tree
 
+  -- how a tree ends: by a choice among trees, a jump to a label, the return of its range, a stop of
+  -- the run, or where no run comes
   pub data End : Type 0 where
     Pick : (picker : Picker) → (arms : Trees) → End
     Jump : (to : Label) → End
@@ -19,13 +21,16 @@ mutual
     Stop : End
     Dead : End
 
+  -- the trees of a choice's arms, in order
   pub data Trees : Type 0 where
     no_more : Trees
     more : (first : Tree) → (others : Trees) → Trees
 
+-- the statements of a tree
 abbrev pub body_of : Tree → Stmts
 body_of (tree body end) = body
 
+-- the end of a tree
 abbrev pub end_of : Tree → End
 end_of (tree body end) = end
 
@@ -39,5 +44,7 @@ IsLast Dead = Unit {0}
 
 -- each range has an entry, and a tree at each label
 pub record Family : Type 0 where
+  -- the label at which a range begins
   pub entry : Range → Label
+  -- the tree at a label
   pub node : Range → Label → Tree

@@ -6,7 +6,7 @@ use Rattle.control_flow_theory.specs.language.Language.{Act, Test, Picker, By, C
 use Rattle.control_flow_theory.specs.language.Language as language
 use Rattle.control_flow_theory.specs.semantics.Doing.{Doing}
 
--- what the head of the rest comes to, with what it showed and the memory behind it
+-- what the head of the rest comes to, with what it showed and the memory after it
 pub data Way (Memory : Type 0) : Type 0 where
   -- it goes on with these items
   On : (trace : Trace) → (memory : Memory) → (items : List Item) → Way Memory
@@ -19,6 +19,7 @@ pub data Way (Memory : Type 0) : Type 0 where
   -- it goes to the end of a paragraph
   ToEnd : (trace : Trace) → (memory : Memory) → (paragraph : ℕ) → Way Memory
 
+-- the same way, after this was shown
 abbrev pub way_after : {Memory : Type 0} → Trace → Way Memory → Way Memory
 way_after shown (On trace memory items) = On (shown ++ trace) memory items
 way_after shown (Halts trace how memory) = Halts (shown ++ trace) how memory
@@ -26,22 +27,23 @@ way_after shown (Into entry exit items) = Into entry exit items
 way_after shown (To trace memory paragraph) = To (shown ++ trace) memory paragraph
 way_after shown (ToEnd trace memory paragraph) = ToEnd (shown ++ trace) memory paragraph
 
--- goes on with the value and the memory behind it, or ends the run
+-- goes on with the value and the memory after it, or ends the run
 abbrev pub tried : {Memory Value : Type 0} → Tried Memory Value → (Value → Memory → Way Memory) →
     Way Memory
 tried (Got trace value memory) goes = way_after trace (goes value memory)
 tried (Ends trace kind memory) goes = Halts trace (Abend kind) memory
 
 module _ {Memory : Type 0} (doing : Doing Memory) where
-  -- with these items, and nothing done
+  -- the way that goes on with these items, nothing being done
   abbrev pub on : List Item → Memory → Way Memory
   on items memory = On [] memory items
 
-  -- a loop begins: its remainder, behind one body where the test comes after
+  -- the rest where a loop begins: its remainder, after one body where the test comes after
   abbrev pub first_turn : Bool → Turning → Body → List Item → List Item
   first_turn false turning body rest = Turn turning body ∷ rest
   first_turn true turning body rest = before_body body (Turn turning body ∷ rest)
 
+  -- how a loop by VARYING turns, tested before or after
   abbrev pub varying : Bool → Act → Test → Turning
   varying false step test = Steps false step test
   varying true step test = StepsAfter step test
@@ -55,15 +57,18 @@ module _ {Memory : Type 0} (doing : Doing Memory) where
   loop_begins (Varying after set step test) body rest memory =
       tried (doing.act set memory) (λ u. on (first_turn after (varying after step test) body rest))
 
-  -- one more turn, or none
+  -- the rest after a loop's test: nothing more of it where the test holds, else one more turn
   abbrev pub turns : Bool → Turning → Body → List Item → List Item
   turns true turning body rest = rest
   turns false turning body rest = before_body body (Turn turning body ∷ rest)
 
+  -- a loop's test is made, and one more turn begins where it doesn't hold
   abbrev pub tests : Test → Turning → Body → List Item → Memory → Way Memory
   tests test turning body rest memory =
       tried (doing.test test memory) (λ ended. on (turns ended turning body rest))
 
+  -- what VARYING tested after does after its test: the loop ends, or its item is augmented and one
+  -- more turn begins
   abbrev pub steps_on : Bool → Act → Test → Body → List Item → Memory → Way Memory
   steps_on true step test body rest memory = on rest memory
   steps_on false step test body rest memory =
@@ -84,11 +89,12 @@ module _ {Memory : Type 0} (doing : Doing Memory) where
   turn_way (StepsAfter step test) body rest memory =
       tried (doing.test test memory) (λ ended. steps_on ended step test body rest)
 
-  -- the name with this number, from 0; else the statement is dropped
+  -- the way to the paragraph that was chosen; where none was, the statement is dropped
   abbrev pub to_one : Option ℕ → List Item → Memory → Way Memory
   to_one None rest memory = on rest memory
   to_one (Some paragraph) rest memory = To [] memory paragraph
 
+  -- what a statement does at the head of a rest
   abbrev pub stmt_way : Stmt → List Item → Memory → Way Memory
   stmt_way (language.Do act) rest memory = tried (doing.act act memory) (λ u. on rest)
   stmt_way (Choose picker arms) rest memory =
@@ -104,6 +110,7 @@ module _ {Memory : Type 0} (doing : Doing Memory) where
   stmt_way (ExitPerform cycle) rest memory = on (from_loop cycle rest) memory
   stmt_way StopRun rest memory = Halts [] Normally memory
 
+  -- what the head of a rest does
   abbrev pub item_way : Item → List Item → Memory → Way Memory
   item_way (Do stmt) rest memory = stmt_way stmt rest memory
   item_way SentenceEnd rest memory = on rest memory

@@ -11,12 +11,13 @@ abbrev pub TheSourceGrows : Type 0 → Type 0 → Type 0
 TheSourceGrows Memory Left = (doing : Doing Memory) (left : Memory → Left) (program : Program) →
     Grows (source_machine doing left program)
 
--- and so is a step of a walk
+-- a step of a walk shows more, and a walk that is over stays
 abbrev pub WalksGrow : Type 0 → Type 0 → Type 0
 WalksGrow Memory Left =
     (acting : Acting Memory) (left : Memory → Left) (family : Family) (range : Range) →
     Grows (walk_machine acting left family range)
 
+-- so does a step of the walk of a whole program
 abbrev pub TheMainWalkGrows : Type 0 → Type 0 → Type 0
 TheMainWalkGrows Memory Left = (acting : Acting Memory) (left : Memory → Left) (family : Family) →
     Grows (main_machine acting left family)

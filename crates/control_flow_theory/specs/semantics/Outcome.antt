@@ -6,6 +6,7 @@ use Rattle.control_flow_theory.specs.runs.Run as runs
 abbrev pub Event : Type 0
 Event = List ℕ
 
+-- what a run showed, in order
 abbrev pub Trace : Type 0
 Trace = List Event
 
@@ -28,13 +29,15 @@ pub data Ending (Left : Type 0) : Type 0 where
   Returned : (left : Left) → Ending Left
   Lost : Ending Left
 
+-- a run of a program: what it showed, and how it stands
 abbrev pub Run : Type 0 → Type 0
 Run Left = runs.Run Event (Ending Left)
 
+-- a run of a program is still going, or came to an ending
 abbrev pub Standing : Type 0 → Type 0
 Standing Left = runs.Standing (Ending Left)
 
--- a part of a step gives a value, with what it showed and the memory behind it, or ends the run
+-- a part of a step gives a value, with what it showed and the memory after it, or ends the run
 pub data Tried (Memory Value : Type 0) : Type 0 where
   Got : (trace : Trace) → (value : Value) → (memory : Memory) → Tried Memory Value
   Ends : (trace : Trace) → (kind : ℕ) → (memory : Memory) → Tried Memory Value

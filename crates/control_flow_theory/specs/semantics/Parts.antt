@@ -29,6 +29,7 @@ says byte = stmt.Display (operand.Text (byte ∷ []) ∷ []) true
 abbrev pub shows : Simple
 shows = stmt.Display (operand.Place (item 0) ∷ []) true
 
+-- arithmetic into no target, without phrases
 abbrev pub changes : Calc → Simple
 changes calc = stmt.Arith calc [] (roll-Arms (record { first = None; second = None }))
 
@@ -64,10 +65,12 @@ shown_items [] n = []
 shown_items (first ∷ others) n = elim (out-Operand first)
     [ Operand-F.Text bytes ↦ bytes | _ ↦ n ∷ [] ]
 
+-- an ADD makes N one more, and other arithmetic one less
 abbrev pub changed : Calc → ℕ → ℕ
 changed (calc.Add parts) n = suc n
 changed calc n = n - 1
 
+-- what DISPLAY and arithmetic show and do to N; other statements do nothing
 abbrev pub small_act : Simple → ℕ → Tried ℕ (Unit {0})
 small_act simple n = elim (out-Stmt simple) [
   | Stmt-F.Display items advance ↦ Got (shown_items items n ∷ []) tt n
@@ -87,6 +90,7 @@ abbrev pub small_choose : Chooser → ℕ → Tried ℕ ℕ
 small_choose chooser zero = Got [] 100 0
 small_choose chooser (suc n) = Got [] n (suc n)
 
+-- what the parts do to N
 abbrev pub small : Acting ℕ
 small = record {
   act = small_act;
@@ -95,5 +99,6 @@ small = record {
   count = λ amount n. Got [] n n;
 }
 
+-- the same of a program without cells
 abbrev pub small_doing : Doing ℕ
 small_doing = alone small

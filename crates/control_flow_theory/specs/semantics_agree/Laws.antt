@@ -12,7 +12,7 @@ use Rattle.control_flow_theory.specs.semantics.Structural.{structural}
 use Rattle.control_flow_theory.specs.language.Structured.{IsStructured}
 use Rattle.control_flow_theory.specs.semantics_agree.Same.{EndsFairly, SameBehaviour}
 
--- with more units nested statements show more, and what is over stays
+-- nested statements show more with more units, and what is over stays
 abbrev pub MoreUnitsShowMore : Type 0 → Type 0 → Type 0
 MoreUnitsShowMore Memory Left = (doing : Doing Memory) (left : Memory → Left) (program : Program) →
     Steady (structural doing left program)
@@ -29,14 +29,14 @@ StructuredAgrees Memory Left =
     (doing : Doing Memory) (left : Memory → Left) (program : Program) → IsStructured program →
     Tied (meaning (source_machine doing left program)) (structural doing left program)
 
--- so a structured program behaves as itself
+-- a structured program behaves by steps as its nested statements do
 abbrev pub StructuredBehavesTheSame : Type 0 → Type 0 → Type 0
 StructuredBehavesTheSame Memory Left =
     (acting : Acting Memory) (left : Memory → Left) (program : Program) → IsStructured program →
     SameBehaviour (meaning (source_machine (alone acting) left program))
     (structural (alone acting) left program)
 
--- whatever its parts do, and so on every path
+-- a structured program meets no fault of its flow, whatever its parts do, and so on every path
 abbrev pub StructuredMeetsNoFault : Type 0 → Type 0 → Type 0
 StructuredMeetsNoFault Memory Left =
     (doing : Doing Memory) (left : Memory → Left) (program : Program) → IsStructured program →
@@ -48,7 +48,8 @@ abbrev pub Returns : {Memory Left : Type 0} → SourceState Memory Left → Type
 Returns state = (top : Pending) × (others : List Pending) × (state.pending ≡ top ∷ others)
     × (top.end ≡ state.paragraph)
 
--- at a paragraph's end control returns, and never passes to the next paragraph
+-- control returns at a paragraph's end of a structured program, and never passes to the next
+-- paragraph
 abbrev pub StructuredNeverFallsThrough : Type 0 → Type 0 → Type 0
 StructuredNeverFallsThrough Memory Left =
     (doing : Doing Memory) (left : Memory → Left) (program : Program) → IsStructured program →

@@ -9,10 +9,11 @@ use Rattle.control_flow_theory.specs.graph_rules.Reduced.{Node, Graph, tree_in, 
 use Rattle.control_flow_theory.specs.structuring.Dispatches.{LeavesTree, Numbered, labels_of, Rising, dispatched}
 use Rattle.control_flow_theory.specs.structuring.Targets.{with_exits}
 
--- each arm stands, be it empty
+-- no arm is left out, be it empty
 abbrev pub none_left_out : Picker → ℕ → Bool
 none_left_out picker k = false
 
+-- there are two targets or more
 abbrev pub are_several : Targets → Bool
 are_several NoTarget = false
 are_several (Only live) = false
@@ -24,7 +25,7 @@ has_exits graph label =
     if is_above (leaves_to label (tree_in graph.nodes label))
     then are_several (other_targets label (tree_in graph.nodes label)) else false
 
--- the node becomes a loop, and then a Pick of its targets by a new cell
+-- the graph in which the node is a loop, and then a Pick of its targets by a new cell
 abbrev pub exits_graph : Label → Graph → Graph
 exits_graph label graph =
     looped_graph label
@@ -33,17 +34,21 @@ exits_graph label graph =
 
 -- Exits on the lowest label where neither Loop nor Inline applies, and Join.
 
+-- Exits on this label, and then all joins
 abbrev pub exits_step : Graph → Option Label → Option Graph
 exits_step graph None = None
 exits_step graph (Some label) = Some (join_graph (exits_graph label graph))
 
+-- the graph that another rule gave, or else Exits on the lowest label that it applies to
 abbrev pub or_exits : Graph → Option Graph → Option Graph
 or_exits graph None = exits_step graph (lowest (has_exits graph) graph.nodes)
 or_exits graph (Some next) = Some next
 
+-- the graph after one rule of all, where one applies
 abbrev pub any_step : Graph → Option Graph
 any_step graph = or_exits graph (rule_step graph)
 
+-- the graph after this many steps at most
 abbrev pub reduced_by_all : ℕ → Graph → Graph
 reduced_by_all zero graph = graph
 reduced_by_all (suc most) graph = reduced_by_all most (stepped graph (any_step graph))
@@ -74,8 +79,9 @@ AllNumbered labels [] = Unit {0}
 AllNumbered labels (node ∷ nodes) =
     LeavesTree (Numbered labels) (Unit {0}) node.tree × AllNumbered labels nodes
 
--- its nodes stand in label order, and its entry and its jumps are to nodes
+-- its nodes are in label order, and its entry and its jumps are to nodes
 pub record IsClosed (graph : Graph) : Type 0 where
+  -- the nodes come in label order
   pub rising : Rising graph.nodes
   pub entry : Numbered (labels_of graph.nodes) graph.entry
   pub jumps : AllNumbered (labels_of graph.nodes) graph.nodes

@@ -23,15 +23,19 @@ else_left_out (If test) (suc k) = true
 else_left_out (By chooser) k = false
 else_left_out (ByCell cell) k = false
 
+-- one statement alone
 abbrev pub one : Stmt → Stmts
 one stmt = also stmt none
 
+-- DISPLAY of one byte
 abbrev pub say : ℕ → Stmt
 say byte = language.Do (Own (says byte))
 
+-- the trees of two arms
 abbrev pub two : Tree → Tree → Trees
 two a b = more a (more b no_more)
 
+-- the jump to a label alone
 abbrev pub go : ℕ → Tree
 go label = tree none (Jump label)
 
@@ -43,12 +47,15 @@ exit_node =
     (tree (one (say 2)) (Pick (If (Holds (is 7))) (two (go 30)
     (tree none (Pick (If (Holds (is 8))) (two (go 60) (go 0))))))))))))
 
+-- IF with both arms
 abbrev pub if_else : ℕ → Stmts → Stmts → Stmt
 if_else cond a b = Choose (If (Holds (is cond))) (given a (given b done))
 
+-- the cell with the number 9 takes this value
 abbrev pub put : ℕ → Stmts
 put n = one (language.Do (Set 9 n))
 
+-- the first program as a loop with two exits
 abbrev pub ALoopWithTwoExits : Type 0
 ALoopWithTwoExits =
     with_exits else_left_out 9 0 exit_node ≡
@@ -75,14 +82,17 @@ last_nodes =
           (Jump 3);
     } ∷ []
 
+-- the nodes of B and C
 abbrev pub tail_nodes : List Node
 tail_nodes = record { label = 3; tree = tree (one (say 1)) (Jump 6) } ∷ last_nodes
 
+-- the nodes of A, B and C
 abbrev pub state_nodes : List Node
 state_nodes =
     record { label = 0; tree = tree none (Pick (If (Holds (is 1))) (two (go 6) (go 3))) }
     ∷ tail_nodes
 
+-- the second program as a dispatch
 abbrev pub TwoLabelsFromTwoEntries : Type 0
 TwoLabelsFromTwoEntries =
     dispatched else_left_out 9 0 state_nodes ≡
@@ -98,12 +108,15 @@ TwoLabelsFromTwoEntries =
 
 -- The second program and its dispatch, walked from N = 2: both show B and C, and stop.
 
+-- the second program's nodes, as the graph of each range
 abbrev pub graphs : Graphs
 graphs range = record { entry = 0; nodes = state_nodes; added = [] }
 
+-- a run that showed B and C and stopped
 abbrev pub shown : Run ℕ
 shown = record { trace = (1 ∷ []) ∷ (2 ∷ []) ∷ []; standing = Over (Stopped Normally 2) }
 
+-- step by step, the second program and its dispatch walk to the same run
 abbrev pub TheDispatchWalksAlike : Type 0
 TheDispatchWalksAlike =
     (meaning (main_machine small (λ n. n) (family_of graphs)) 2 20 ≡ shown)

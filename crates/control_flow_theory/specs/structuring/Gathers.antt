@@ -27,10 +27,10 @@ says (Above cell) number = is_above number
 abbrev pub sets : ℕ → ℕ → Item
 sets cell number = Do (language.Do (Set cell number))
 
--- the loop ends at the test, and behind it stands this end
+-- the loop ends at the test, and after it comes this end
 module _ (cell : ℕ) (test : Test) (out : End) where
-  -- with this number in the cell the loop is left, and this end comes next: it stands behind the
-  -- loop, or is picked there by the cell
+  -- the loop is left with this number in the cell, and this end comes next: it follows the loop, or
+  -- is picked there by the cell
   abbrev pub Leads : ℕ → End → Type 0
   Leads number end = (says test number ≡ true)
       × ((out ≡ end) ⊎
@@ -41,7 +41,7 @@ module _ (cell : ℕ) (test : Test) (out : End) where
   -- are reached; the cell holds this number now
   module _ (inside : ℕ → Label → Type 0) (reached : Label → Type 0) (now : ℕ) where
     abbrev mutual
-      -- what stands in place of an end inside the loop
+      -- what takes the place of an end inside the loop
       pub GathersEnd : End → List Item → Type 0
       GathersEnd (Pick picker arms) tail =
           (news : Arms) × (tail ≡ Do (Choose picker news) ∷ []) × GathersArms arms news
@@ -53,7 +53,7 @@ module _ (cell : ℕ) (test : Test) (out : End) where
       GathersEnd Stop tail = tail ≡ Do StopRun ∷ []
       GathersEnd Dead tail = tail ≡ []
 
-      -- what stands in place of a tree
+      -- what takes the place of a tree
       pub GathersTree : Tree → List Item → Type 0
       GathersTree (tree body end) items =
           (tail : List Item) × (items ≡ before body tail) × GathersEnd end tail
@@ -83,8 +83,11 @@ loop_from cell test body out number =
 -- the family with the loop in place of the nodes of this range
 pub record Gathered (reached : Range → Label → Type 0) (inside : ℕ → Label → Type 0) (range : Range)
     (cell : ℕ) (test : Test) (body : Stmts) (out : End) (g h : Family) : Type 0 where
+  -- the entries are the same
   pub entries : (r : Range) → h.entry r ≡ g.entry r
+  -- each entry is reached
   pub enters : (r : Range) → reached r (g.entry r)
+  -- the loop's test is one on the cell
   pub on_cell : OnCell cell test
   -- what is reached from outside is as it was, or the loop begins there
   pub nodes : (r : Range) (l : Label) → reached r l →

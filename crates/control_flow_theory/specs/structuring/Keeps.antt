@@ -15,9 +15,12 @@ use Rattle.control_flow_theory.specs.graph_rules.Families.{Added, Never, Kinds, 
 -- the kinds with one cell more, which statements may set
 pub record Gains (kinds more : Kinds) (range : Range) (cell : ℕ) : Type 0 where
   pub extends : Extends kinds more
+  -- the cell is new
   pub fresh : kinds range cell ≡ None
+  -- what it is for
   pub kind : Added
   pub new : more range cell ≡ Some kind
+  -- statements may set it
   pub may_set : kind ≢ Never
 
 -- two memories, each ready for its family, which have the same own part and agree on the cells that
@@ -27,7 +30,9 @@ pub record Twins (Memory : Type 0) (kinds more : Kinds) : Type 0 where
   pub second : Celled Memory
   pub first_ready : IsReady kinds first
   pub second_ready : IsReady more second
+  -- the program's own memory is the same
   pub own : first.own ≡ second.own
+  -- and so is each cell that the first family has
   pub cells : (range : Range) (cell : ℕ) → Has kinds range cell →
       first.cells range cell ≡ second.cells range cell
 
@@ -41,11 +46,15 @@ module _ {Memory Left : Type 0} (acting : Acting Memory) (left : Memory → Left
   -- the new family is one, and sound; from such memories both walk alike, step by step and within
   -- eight times the units
   pub record Kept (kinds more : Kinds) (g h : Family) (order : List Range) : Type 0 where
+    -- the new family is a family
     pub family : IsFamily more h order
+    -- it is sound
     pub sound : IsSound acting left more h order
+    -- step by step the walks are tied
     pub tied : (range : Range) → In range order →
         Tied {World = Twins Memory kinds more} (steps_from (λ w. w.first) g range)
         (steps_from (λ w. w.second) h range)
+    -- within eight times the units each shows what the other does
     pub matched : (range : Range) → In range order →
         Matched {World = Twins Memory kinds more} 8
         (walked_from acting left (λ w. w.first) g order range)

@@ -1,4 +1,4 @@
--- What is said of the rules that bring a number in a cell, and of all rules in their order.
+-- What holds of the rules that bring a number in a cell, and of all rules in their order.
 use Rattle.std.specs.Prelude.{ℕ, ◌≡◌, Bool, true, List, ◌*◌, [], ◌∷◌, None}
 use Rattle.control_flow_theory.specs.language.Language.{Test, Picker, Stmts, Range, Main}
 use Rattle.control_flow_theory.specs.semantics.Doing.{Acting}
@@ -16,11 +16,12 @@ use Rattle.control_flow_theory.specs.runs.Tied.{Tied}
 use Rattle.control_flow_theory.specs.runs.Machine.{meaning}
 use Rattle.control_flow_theory.specs.semantics.Walk.{main_machine}
 
--- what stands behind a loop with a flag
+-- what follows a loop with a flag
 pub data Behind : Type 0 where
   Goes : (to : Label) → Behind
   Returns : Behind
 
+-- the end that goes there
 abbrev pub end_behind : Behind → End
 end_behind (Goes to) = Jump to
 end_behind Returns = Return
@@ -78,6 +79,7 @@ module _ (Memory Left : Type 0) where
 
   -- Both as functions of a graph.
 
+  -- Exits on a node keeps what the walks of its graphs do
   abbrev pub ExitsGraphKeeps : Type 0
   ExitsGraphKeeps =
       (acting : Acting Memory) (left : Memory → Left) (graphs : Graphs) (order : List Range) →
@@ -88,6 +90,7 @@ module _ (Memory Left : Type 0) where
       (kinds_of (with_graph graphs range (exits_graph label (graphs range)))) (family_of graphs)
       (family_of (with_graph graphs range (exits_graph label (graphs range)))) order
 
+  -- the dispatch keeps what the walks of its graphs do
   abbrev pub DispatchGraphKeeps : Type 0
   DispatchGraphKeeps =
       (acting : Acting Memory) (left : Memory → Left) (graphs : Graphs) (order : List Range) →
@@ -98,7 +101,7 @@ module _ (Memory Left : Type 0) where
       (kinds_of (with_graph graphs range (dispatch_graph (graphs range)))) (family_of graphs)
       (family_of (with_graph graphs range (dispatch_graph (graphs range)))) order
 
--- the targets of a node stand in label order
+-- the targets of a node are in label order
 abbrev pub TargetsRise : Type 0
 TargetsRise = (label : Label) (t : Tree) → RisingLabels (targets_of label t)
 
@@ -112,7 +115,7 @@ ClosedKeeps Memory Left =
     AsBefore acting left graphs (all_closed order graphs) order
     × ((range : Range) → In range order → IsClosed (all_closed order graphs range))
 
--- an end behind which a procedure ends
+-- an end after which a procedure ends
 abbrev pub PlainEnd : End → Type 0
 PlainEnd (Pick picker arms) = ⊥
 PlainEnd (Jump to) = ⊥
@@ -127,7 +130,7 @@ ClosedEnds = (graph : Graph) → IsClosed graph →
     ((closed_graph graph).nodes ≡ record { label = (closed_graph graph).entry; tree = t } ∷ [])
     × PlainEnd (end_of t)
 
--- a dispatch stands only where no other rule applies to what is left
+-- a dispatch is made only where no other rule applies to what is left
 abbrev pub RulesEnd : Type 0
 RulesEnd = (graph : Graph) → any_step (reduced_by_all (3 * size graph.nodes) (shaped graph)) ≡ None
 
@@ -139,7 +142,7 @@ module _ (Memory Left : Type 0) where
       (order : List Range) → Kept acting left kinds more g h order → In Main order →
       Tied (meaning (main_machine acting left g)) (meaning (main_machine acting left h))
 
-  -- and where it brought none, or one that never changes
+  -- the walks of whole programs are tied where a rule brought no cell, or one that never changes
   abbrev pub SameMainsAreTied : Type 0
   SameMainsAreTied =
       (acting : Acting Memory) (left : Memory → Left) (kinds more : Kinds) (g h : Family)

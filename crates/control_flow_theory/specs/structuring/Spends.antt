@@ -10,13 +10,16 @@ use Rattle.control_flow_theory.specs.graph_rules.Charged.{spent}
 pub record Spends {World Event End A B : Type 0} (a : Machine World Event End A)
     (b : Machine World Event End B) (cost_a : A → ℕ) (cost_b : B → ℕ) (parted : A → Bool)
     (factor : ℕ) (Related : A → B → Type 0) : Type 0 where
+  -- what the second may still cost too much
   pub owed : A → B → ℕ
   -- the second comes to where the first begins
   pub starts : (world : World) → (k : ℕ)
       × Related (a.begun world) (iterate b.step k (b.begun world))
       × (spent b.step cost_b k (b.begun world) + owed (a.begun world)
       (iterate b.step k (b.begun world)) + 2 ≤ factor)
+  -- no step of the first costs more than two units
   pub cheap : (s : A) → cost_a s ≤ 2
+  -- related states show the same
   pub agree : (s : A) (t : B) → Related s t → a.run s ≡ b.run t
   -- where units may end within the step, all that the second shows is shown by its first steps
   pub moves : (s : A) (t : B) → Related s t → (a.run s).standing ≡ Going →

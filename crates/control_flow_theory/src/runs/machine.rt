@@ -5,7 +5,7 @@ ghost use Rattle.control_flow_theory.specs.runs.Run.{IsOver, Covers};
 ghost use Rattle.control_flow_theory.specs.runs.Tied.{Steady, Tied};
 ghost use Rattle.control_flow_theory.specs.runs.Machine.{iterate, Reaches, Machine, meaning, Grows, Simulates};
 
-/// Steps follow upon steps: their numbers add, and what a reached state reaches is reached.
+/// Steps compose: their numbers add up, and what a reached state reaches is reached.
 pub fn runs_compose<State>()
     ensures counted { (step : State → State) (k n : ℕ) (s : State) →
         iterate step (k + n) s ≡ iterate step n (iterate step k s) }
@@ -16,7 +16,7 @@ pub fn runs_compose<State>()
         Reaches step s t → Reaches step t u → Reaches step s u }
 {}
 
-/// With more steps a machine shows more.
+/// With more steps a machine shows at least as much.
 pub fn more_steps_show_more<World, Event, End, State>()
     ensures steady { (machine : Machine World Event End State) → Grows machine →
         Steady (meaning machine) }
@@ -24,7 +24,7 @@ pub fn more_steps_show_more<World, Event, End, State>()
         (s t : State) → Reaches machine.step s t → Covers (machine.run s) (machine.run t) }
 {}
 
-/// A state that is over stays, and from no state are two of them reached.
+/// A state that is over stays, and at most one such state is reached from any state.
 pub fn what_is_over_stays<World, Event, End, State>()
     ensures stays { (machine : Machine World Event End State) → Grows machine →
         (n : ℕ) (s : State) → IsOver (machine.run s) → iterate machine.step n s ≡ s }

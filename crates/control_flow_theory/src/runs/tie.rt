@@ -10,12 +10,12 @@ pub fn covers_compose<Event, End>()
     ensures composes { (a b c : Run Event End) → Covers a b → Covers b c → Covers a c }
 {}
 
-/// A meaning of which more steps show more is tied to itself.
+/// A meaning that never shows less with more steps is tied to itself.
 pub fn a_steady_meaning_is_tied_to_itself<World, Event, End>()
     ensures { (a : Meaning World Event End) → Steady a → Tied a a }
 {}
 
-/// A tie holds both ways round.
+/// A tie holds in both directions.
 pub fn ties_turn_round<World, Event, End>()
     ensures { (a b : Meaning World Event End) → Tied a b → Tied b a }
 {}
@@ -25,14 +25,14 @@ pub fn ties_compose<World, Event, End>()
     ensures { (a b c : Meaning World Event End) → Tied a b → Tied b c → Tied a c }
 {}
 
-/// Two meanings are tied where each number of steps of the first has one of the second with the
-/// same run, at a like pace.
+/// Two meanings are tied where each number of steps of the first has a number of steps of the
+/// second with the same run, at a similar pace.
 pub fn paced_is_tied<World, Event, End>()
     ensures { (a b : Meaning World Event End) → Steady b → Paced a b → Tied a b }
 {}
 
-/// Two meanings are tied that in every world come to one run that is over, each within a number of
-/// steps fixed beforehand.
+/// Two meanings are tied where in every world they come to the same run, which is over, each within
+/// a number of steps fixed beforehand.
 pub fn ended_alike_is_tied<World, Event, End>()
     ensures { (a b : Meaning World Event End) → Steady a → Steady b → EndAlike a b → Tied a b }
 {}
@@ -47,7 +47,7 @@ pub fn tied_meanings_do_the_same<World, Event, End>()
         ↔ (ComesTo b world run) }
 {}
 
-/// Meanings stay tied where their world is made from another one.
+/// Meanings stay tied where their world is computed from another one.
 pub fn ties_hold_in_other_worlds<World, Event, End, Other>()
     ensures { (world_of : Other → World) (a b : Meaning World Event End) → Tied a b →
         Tied {World = Other} (λ w. a (world_of w)) (λ w. b (world_of w)) }

@@ -208,7 +208,7 @@ fn span(alloc: Global, cursor: &mut Cursor<'_>) -> Result<SpanDraft, Unread>
     }
 }
 
-/// One more value.
+/// Reads one more value.
 fn span_behind(
     alloc: Global,
     cursor: &mut Cursor<'_>,

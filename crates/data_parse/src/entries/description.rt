@@ -28,7 +28,7 @@ fn entry_name(cursor: &mut Cursor<'_>) -> Result<Option<Word>, Unread>
     }
 }
 
-/// One more clause.
+/// Reads one more clause.
 fn clause_behind(
     alloc: Global,
     cursor: &mut Cursor<'_>,

@@ -5,9 +5,9 @@ ghost use Rattle.cob_base.specs.Answers.{Makes};
 
 use cob_base::{Items, NoMemory};
 
-/// One more element; the list is let go where there is no memory.
+/// The list with one more element; it is dropped where there is no memory.
 ///
-/// It is generic, so that a check opens no draft where a list isn't kept.
+/// It is generic, so that the drop of the list is checked without the drops of the types in it.
 pub fn pushed<T: Drop>(mut items: Items<T>, item: T) -> Result<Items<T>, NoMemory>
     ensures { Makes (items ++ item ∷ []) result }
 {

@@ -11,9 +11,11 @@ use Rattle.round_trip.specs.procedures.Outline.{HasProcedures}
 use Rattle.round_trip.specs.procedures.Told.{own_procedures}
 use Rattle.program_gen.specs.Generated.{counter_entry, generated}
 
+-- they can be printed
 abbrev pub GeneratedProgramsArePrintable : Type 0
 GeneratedProgramsArePrintable = (n : ℕ) → n ≤ 1249 → IsPrintableProgram (generated n)
 
+-- their names may be names, and their values are literals
 abbrev pub GeneratedProgramsAreTitled : Type 0
 GeneratedProgramsAreTitled = (n : ℕ) → n ≤ 1249 → IsTitled (generated n)
 
@@ -25,7 +27,8 @@ GeneratedProgramsKeepRules = (n : ℕ) → KeepsRules (generated n) [] (counter_
 abbrev pub GeneratedProgramsHaveProcedures : Type 0
 GeneratedProgramsHaveProcedures = (n : ℕ) → n ≤ 1249 → HasProcedures (generated n)
 
--- over its own names and procedures, behind so many tokens
+-- what is printed of each generated program spells it over its own names and procedures, after so
+-- many tokens
 abbrev pub GeneratedProgramsAreSpelled : Type 0
 GeneratedProgramsAreSpelled =
     (n taken : ℕ) → n ≤ 1249 →

@@ -1,4 +1,4 @@
-//! What is printed of a generated program reads to that very program. Nothing here runs.
+//! What is printed of a generated program is read back as that program. Nothing here runs.
 
 ghost use Rattle.end_to_end_laws.specs.generated.readable_generated.Laws.{GeneratedProgramsAreReadable, GeneratedProgramsReadBack};
 

@@ -1,12 +1,12 @@
 //! The divisions before the PROCEDURE DIVISION are read twice: without names, to learn what they
-//! declare, and over these names. Both readings take the same tokens and read the same but for what
-//! status items stand for. So paragraphs are read at the very tokens among which the headers of
-//! procedures are counted. Nothing here runs.
+//! declare, and with these names. Both readings take the same tokens and read the same, except for
+//! what status items stand for. So paragraphs are read at the same tokens among which the headers
+//! of procedures are counted. Nothing here runs.
 
 ghost use Rattle.end_to_end_laws.specs.read_programs.division_readings.Laws.{DivisionsReadTheSame, ParagraphsAreReadWhereCounted};
 
-/// Whatever names and entries there are, the divisions take the same tokens, or stop the same, and
-/// read the same but for what status items stand for.
+/// Whatever names and entries there are, the divisions take the same tokens, or stop in the same
+/// way, and read the same, except for what status items stand for.
 pub fn divisions_read_the_same()
     ensures { DivisionsReadTheSame }
 {}

@@ -1,5 +1,5 @@
-//! Lists of names are short in a program that is read: a source has no more tokens than their
-//! limit, and each name of a GO TO DEPENDING takes one. Nothing here runs.
+//! Lists of names are short in a program that is read: a source has no more tokens than the limit
+//! on these, and each name of a GO TO DEPENDING takes one. Nothing here runs.
 
 ghost use Rattle.end_to_end_laws.specs.read_programs.few_reading.Laws.{ProgramsThatAreReadNameFew};
 

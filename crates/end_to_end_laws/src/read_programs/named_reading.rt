@@ -1,5 +1,5 @@
 //! A program that is read names items and files that it declares and paragraphs that it has, its
-//! numbers are numbers, and no list that is required is empty. Nothing here runs.
+//! numbers are valid, and no list that is required is empty. Nothing here runs.
 
 ghost use Rattle.end_to_end_laws.specs.read_programs.named_reading.Laws.{ProgramsThatAreReadAreNamed};
 

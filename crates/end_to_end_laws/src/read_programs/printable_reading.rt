@@ -1,5 +1,5 @@
-//! A program that is read can be printed: what its names, numbers, literals and pictures are a text
-//! can have. Nothing here runs.
+//! A program that is read can be printed: a text can have its names, numbers, literals and
+//! pictures. Nothing here runs.
 
 ghost use Rattle.end_to_end_laws.specs.read_programs.printable_reading.Laws.{ProgramsThatAreReadCanBePrinted};
 

@@ -1,4 +1,4 @@
-//! The words that programs are printed with: none of them is a word that this profile leaves out.
+//! The words with which programs are printed: none of them is a word that this profile leaves out.
 //! Nothing here runs.
 
 ghost use Rattle.end_to_end_laws.specs.read_programs.printed_words.Laws.{NoPrintedWordIsLeftOut};

@@ -1,4 +1,4 @@
-//! What is printed of a program that is read reads to that very program, unless it has more bytes
+//! What is printed of a program that is read is read back as that program, unless it has more bytes
 //! or tokens than a source may have: what is read of each part of its statements is spelled by what
 //! is printed of it. Nothing here runs.
 
@@ -6,7 +6,7 @@ ghost use Rattle.end_to_end_laws.specs.read_programs.readable_division.Laws.{Pro
 
 use crate::read_programs::readable_programs::readable_programs_read_back;
 
-/// Over the names of a program, the parts of statements by which it is read fit those by which what
+/// With the names of a program, the parts of statements by which it is read fit those by which what
 /// is printed of it is read again.
 pub fn read_parts_fit()
     ensures { ReadPartsFit }

@@ -1,5 +1,5 @@
-//! Files, records and status items as they are read, and what a program that is read declares, as
-//! what is printed of it is to have them. Nothing here runs.
+//! Files, records and status items as they are read, and what a program that is read declares, in
+//! the form that what is printed of it needs. Nothing here runs.
 
 ghost use Rattle.std.specs.Prelude.{ℕ, List};
 ghost use Rattle.cob_tree.specs.declared.program.Program.{Program};
@@ -16,32 +16,33 @@ pub fn names_are_readable()
     ensures { NamesAreReadable }
 {}
 
-/// The names of a program that is read may be names, and its values are literals.
+/// The names of a program that is read are valid names, and its values are literals.
 pub fn programs_that_are_read_are_titled()
     ensures { ProgramsThatAreReadAreTitled }
 {}
 
-/// Its files and entries keep the rules.
+/// The files and entries of a program that is read keep the rules.
 pub fn programs_that_are_read_keep_rules()
     ensures { ProgramsThatAreReadKeepRules }
 {}
 
-/// Its status items are fit, where references are.
+/// The status items of a program that is read fit, where references do.
 pub fn programs_that_are_read_have_fit_statuses()
     ensures { ProgramsThatAreReadHaveFitStatuses }
 {}
 
-/// Status items that are fit are spelled, whatever the program.
+/// Status items that fit are spelled, whatever the program.
 pub fn fit_statuses_are_stated()
     ensures { FitStatusesAreStated }
 {}
 
-/// So are those of a program that is read.
+/// The status items of a program that is read are spelled.
 pub fn programs_that_are_read_are_stated()
     ensures { ProgramsThatAreReadAreStated }
 {}
 
-/// What is printed of its divisions declares the same, whatever form spells its status items.
+/// What is printed of the divisions of a program that is read declares the same, whatever form
+/// spells its status items.
 pub fn declarations_that_are_read_read_back<R: Refers>()
     ensures { (taken : ℕ) (bytes : List ℕ) (program : Program) → Reads bytes program →
         AreStated R.status program program.files → ReadBack R.status taken program }

@@ -1,5 +1,5 @@
-//! What is printed of a readable program reads to that very program: the tokens of the printed
-//! bytes declare what the program has, and spell it over these names. Nothing here runs.
+//! What is printed of a readable program is read back as that program: the tokens of the printed
+//! bytes declare what the program has, and spell it with these names. Nothing here runs.
 
 ghost use Rattle.end_to_end_laws.specs.read_programs.readable_programs.Laws.{ReadableProgramsReadBack};
 

@@ -3,8 +3,8 @@
 
 ghost use Rattle.end_to_end_laws.specs.results.fit_sources.Laws.{ProgramsThatAreReadFit, ReadPartsPass};
 
-/// Each part that is read by a program's own names with no fault noted passes the test of each use of
-/// which no fault is told.
+/// Each part that is read by a program's own names with no fault noted passes the test of each use
+/// for which it has no fault.
 pub fn read_parts_pass()
     ensures { ReadPartsPass }
 {}

@@ -1,5 +1,5 @@
 //! What a program that is read is split into is readable, where it is within the limits of reading:
-//! so what is printed of it reads to it. Nothing here runs.
+//! so what is printed of it is read back as it. Nothing here runs.
 
 ghost use Rattle.end_to_end_laws.specs.results.readable_results.Laws.{SplitProgramsAreReadable, SplitProgramsReadBack};
 
@@ -15,7 +15,7 @@ pub fn split_programs_are_readable()
     programs_that_are_read_fit();
 }
 
-/// So what is printed of it reads to it.
+/// What is printed of such a result is read back as it.
 pub fn split_programs_read_back()
     ensures { SplitProgramsReadBack }
 {

@@ -1,10 +1,11 @@
-//! The procedures that a program is split into may be written by what takes the program's own
+//! The procedures that a program is split into may be written by what accepts the program's own
 //! parts, and so can be printed. Nothing here runs.
 
 ghost use Rattle.end_to_end_laws.specs.results.result_bodies.Laws.{ParagraphsAreWritten, SplitProceduresStand, SplitProgramsHaveFewProcedures, SplitProgramsPrint};
 
 /// The control of what a program is split into is written of procedures; where the program's parts
-/// may be written by some kinds, each procedure may be by what these take beside the program's own.
+/// may be written by some kinds, each procedure may be by what these accept besides the program's
+/// own.
 pub fn split_procedures_stand()
     ensures { SplitProceduresStand }
 {}
@@ -21,8 +22,8 @@ pub fn split_programs_have_few_procedures()
     ensures { SplitProgramsHaveFewProcedures }
 {}
 
-/// What a program that can be printed is split into can be printed, where the names of its procedures
-/// can, and words and added items are few.
+/// What a program that can be printed is split into can be printed, where the names of its
+/// procedures can, and there are few words and added items.
 pub fn split_programs_print()
     ensures { SplitProgramsPrint }
 {}

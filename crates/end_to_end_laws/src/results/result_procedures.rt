@@ -1,6 +1,6 @@
-//! The procedures of a split program: their names may be such and are all different, so that each
-//! is found by its label; its sentences are in scope, and where they fit, they are spelled by what
-//! is printed of them. Nothing here runs.
+//! The procedures of a split program: their names are valid and all different, so that each is
+//! found by its label; its sentences are in scope, and where they fit, they are spelled by what is
+//! printed of them. Nothing here runs.
 
 ghost use Rattle.end_to_end_laws.specs.results.result_procedures.Laws.{
   FitProgramsAreSpelled,
@@ -17,24 +17,24 @@ ghost use Rattle.end_to_end_laws.specs.results.result_procedures.Laws.{
 
 use round_trip::fitting_statements::own_fits::own_fits_spell;
 
-/// The procedures of a program that is read are told apart by their headers, and all have names of
-/// their own.
+/// The procedures of a program that is read are distinguished by their headers, and all have names
+/// of their own.
 pub fn programs_that_are_read_have_procedures()
     ensures { ProgramsThatAreReadHaveProcedures }
 {}
 
-/// The names of procedures may be such, and none stands twice, where so are the names of the
-/// program's own.
+/// The names of the result's procedures are valid and all different, where those of the program's
+/// own are.
 pub fn procedure_names_are_titles()
     ensures { ProcedureNamesAreTitles }
 {}
 
-/// They can be printed, where those of the program can.
+/// The names of the result's procedures can be printed, where those of the program can.
 pub fn procedure_names_are_printable()
     ensures { ProcedureNamesArePrintable }
 {}
 
-/// The paragraphs of a split program are told apart by their headers.
+/// The paragraphs of a split program are distinguished by their headers.
 pub fn split_programs_have_procedures()
     ensures { SplitProgramsHaveProcedures }
 {}
@@ -49,7 +49,7 @@ pub fn nested_statements_are_in_scope()
     ensures { NestedStatementsAreInScope }
 {}
 
-/// A statement stands in each sentence that is written of a procedure.
+/// Each sentence that is written of a procedure has a statement.
 pub fn written_sentences_are_filled()
     ensures { WrittenSentencesAreFilled }
 {}
@@ -60,7 +60,7 @@ pub fn structured_sentences_fit()
     ensures { StructuredSentencesFit }
 {}
 
-/// A program whose procedures are told apart is spelled by what is printed of it, where its
+/// A program whose procedures are distinguished is spelled by what is printed of it, where its
 /// sentences fit, and what fits is spelled.
 pub fn fit_programs_are_spelled()
     ensures { FitProgramsAreSpelled }

@@ -11,10 +11,10 @@ use Rattle.cobol_grammar.proofs.expr_forms_lemmas.ExpressionLaws as laws
 use Rattle.expr_parse.proofs.NameFront.{same_front}
 use Rattle.expr_parse.proofs.+exprs.Goals as goal
 
-pub levels::nested-returns-then-levels-eq0 : goal.levels::nested-returns-then-levels-eq0
+pub levels::nested-returns-then-context-eq0 : goal.levels::nested-returns-then-context-eq0
 unfolding inner
-levels::nested-returns-then-levels-eq0 t c =
-    subst (λ n. Reads (((inner c.args.context.names.now n).nested c.args.count).reads c.args.cursor.now) (Err c.too_deep.result) c.args.cursor.now) (sym c.if-levels-eq0.true)
+levels::nested-returns-then-context-eq0 t c =
+    subst (λ n. Reads (((inner c.args.context.names.now n).nested c.args.count).reads c.args.cursor.now) (Err c.too_deep.result) c.args.cursor.now) (sym c.if-context-eq0.true)
     (too_deep_err _ Parens (is_mark left_parenthesis) c.args.cursor.now c.sees_mark-begins.result c.too_deep.result c.sees_mark-begins.ensures c.too_deep.ensures)
 
 pub levels::nested-returns : goal.levels::nested-returns
@@ -23,10 +23,10 @@ levels::nested-returns t c =
     let e : suc (c.args.context.levels - 1) ≡ c.args.context.levels = omega arith in
     subst (λ n. Reads (((inner c.args.context.names.now n).nested c.args.count).reads c.args.cursor.now) c.in_nested.result c.in_nested.new.cursor) e c.in_nested.ensures
 
-pub levels::suffix-returns-then-levels-eq0 : goal.levels::suffix-returns-then-levels-eq0
+pub levels::suffix-returns-then-context-eq0 : goal.levels::suffix-returns-then-context-eq0
 unfolding inner
-levels::suffix-returns-then-levels-eq0 t c =
-    subst (λ n. Reads (((inner c.args.context.names.now n).suffix c.args.count).reads c.args.cursor.now) (Err c.too_deep.result) c.args.cursor.now) (sym c.if-levels-eq0.true)
+levels::suffix-returns-then-context-eq0 t c =
+    subst (λ n. Reads (((inner c.args.context.names.now n).suffix c.args.count).reads c.args.cursor.now) (Err c.too_deep.result) c.args.cursor.now) (sym c.if-context-eq0.true)
     (too_deep_err _ Parens (is_mark left_parenthesis) c.args.cursor.now c.sees_mark-begins.result c.too_deep.result c.sees_mark-begins.ensures c.too_deep.ensures)
 
 pub levels::suffix-returns : goal.levels::suffix-returns
@@ -35,10 +35,10 @@ levels::suffix-returns t c =
     let e : suc (c.args.context.levels - 1) ≡ c.args.context.levels = omega arith in
     subst (λ n. Reads (((inner c.args.context.names.now n).suffix c.args.count).reads c.args.cursor.now) c.in_suffix.result c.in_suffix.new.cursor) e c.in_suffix.ensures
 
-pub levels::window-returns-then-levels-eq0 : goal.levels::window-returns-then-levels-eq0
+pub levels::window-returns-then-context-eq0 : goal.levels::window-returns-then-context-eq0
 unfolding inner
-levels::window-returns-then-levels-eq0 t c =
-    subst (λ n. Reads (((inner c.args.context.names.now n).window c.args.count).reads c.args.cursor.now) (Err c.too_deep.result) c.args.cursor.now) (sym c.if-levels-eq0.true)
+levels::window-returns-then-context-eq0 t c =
+    subst (λ n. Reads (((inner c.args.context.names.now n).window c.args.count).reads c.args.cursor.now) (Err c.too_deep.result) c.args.cursor.now) (sym c.if-context-eq0.true)
     (too_deep_err _ Parens (is_mark left_parenthesis) c.args.cursor.now c.sees_mark-begins.result c.too_deep.result c.sees_mark-begins.ensures c.too_deep.ensures)
 
 pub levels::window-returns : goal.levels::window-returns

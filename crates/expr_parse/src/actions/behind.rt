@@ -1,4 +1,4 @@
-//! What stands behind the words of a reference.
+//! What comes after the words of a reference.
 
 ghost use Rattle.std.specs.Prelude.{Some};
 ghost use Rattle.cob_base.specs.Answers.{Makes};

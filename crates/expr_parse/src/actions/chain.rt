@@ -23,7 +23,7 @@ pub fn chain_of(side: Side) -> Chain
     }
 }
 
-/// Two expressions under an operator.
+/// Two expressions joined by an operator.
 fn both(alloc: Global, op: Op, left: Expr, right: Expr) -> Result<Expr, NoMemory>
     ensures { Makes (exprs.Both op left right) result }
 {

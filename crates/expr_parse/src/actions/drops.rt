@@ -1,5 +1,6 @@
-//! What is read of an expression is let go by calls, here and in the crates above: a check opens a
-//! tree where one goes by itself, and again in each crate where one does.
+//! What is read of an expression is dropped by these calls, here and in the crates above: an
+//! implicit drop is checked with the drops of all types in the tree, in each function that has one;
+//! that of a call only once.
 
 ghost use Rattle.std.specs.Prelude.{◌≡◌};
 
@@ -7,42 +8,42 @@ use cob_base::Items;
 use cob_tree::{Expr, Place, Sub, Window};
 use cobol_grammar::expr_forms::{Chain, MaybeSubscripts, Side};
 
-/// Lets an operand or expression go.
+/// Drops an operand or expression.
 pub fn drop_side(side: Side) {
     drop(side);
 }
 
-/// Lets a sum go.
+/// Drops a sum.
 pub fn drop_chain(chain: Chain) {
     drop(chain);
 }
 
-/// Lets go what may be subscripts or a sum.
+/// Drops what may be subscripts or a sum.
 pub fn drop_either(either: MaybeSubscripts) {
     drop(either);
 }
 
-/// Lets an item go.
+/// Drops an item.
 pub fn drop_place(place: Place) {
     drop(place);
 }
 
-/// Lets an expression go.
+/// Drops an expression.
 pub fn drop_expr(expr: Expr) {
     drop(expr);
 }
 
-/// Lets subscripts go.
+/// Drops subscripts.
 pub fn drop_subs(subs: Items<Sub>) {
     drop(subs);
 }
 
-/// Lets a window go.
+/// Drops a window.
 pub fn drop_window(window: Window) {
     drop(window);
 }
 
-/// The sum that it spells, and how many leaves it has; the subscripts go.
+/// The sum that it spells, and how many leaves it has; the subscripts are dropped.
 pub fn sum_of(either: MaybeSubscripts) -> (Chain, u32)
     ensures { result ≡ (either.chain, either.leaves) }
 {

@@ -16,9 +16,9 @@ use parser_combinators::{Note, Position};
 use std::alloc::Global;
 use symbol_tables::data_names::Referent;
 
-/// One more element; the list is let go where there is no memory.
+/// The list with one more element; it is dropped where there is no memory.
 ///
-/// It is generic, so that a check opens no tree where a list isn't kept.
+/// It is generic, so that the drop of the list is checked without the drops of the types in it.
 fn pushed<T: Drop>(mut items: Items<T>, item: T) -> Result<Items<T>, NoMemory>
     ensures { Makes (items ++ item ∷ []) result }
 {
@@ -31,7 +31,7 @@ fn pushed<T: Drop>(mut items: Items<T>, item: T) -> Result<Items<T>, NoMemory>
     }
 }
 
-/// One more subscript.
+/// The subscripts with one more.
 pub fn sub_added(subs: Items<Sub>, sub: Sub) -> Result<Items<Sub>, NoMemory>
     ensures { Makes (subs ++ sub ∷ []) result }
 {
@@ -145,7 +145,7 @@ fn subs_added(
     }
 }
 
-/// One more number behind `+` or `-`.
+/// What it is with one more number after `+` or `-`.
 #[tactic(auto, unfolding(cobol_grammar::specs::expr_forms::Either::with_number))]
 pub fn with_number(
     alloc: Global,
@@ -219,7 +219,7 @@ pub fn subs_of(alloc: Global, either: MaybeSubscripts) -> Result<Items<Sub>, NoM
     }
 }
 
-/// The fault of the last operand of the sum that it spells, which stands under an operator.
+/// The fault of the last operand of the sum that it spells, where that operand has an operator.
 pub fn either_fault(either: &MaybeSubscripts) -> Option<Note>
     ensures { result ≡ number_fault either.now.chain.last }
 {

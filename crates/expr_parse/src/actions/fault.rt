@@ -30,7 +30,7 @@ pub fn is_whole(kind: ValueKind) -> bool
     }
 }
 
-/// The fault of what stands under an operator or a sign.
+/// The fault of an operand of an operator or a sign.
 #[tactic(auto, unfolding(cobol_grammar::specs::expr_forms::Fault::number_fault))]
 pub fn number_fault(side: &Side) -> Option<Note>
     ensures { result ≡ faults.number_fault side.now }
@@ -41,14 +41,14 @@ pub fn number_fault(side: &Side) -> Option<Note>
     }
 }
 
-/// The fault of the last operand of a sum, which stands under an operator.
+/// The fault of the last operand of a sum, where that operand has an operator.
 pub fn last_fault(chain: &Chain) -> Option<Note>
     ensures { result ≡ faults.number_fault chain.now.last }
 {
     number_fault(&chain.last)
 }
 
-/// The fault of what is to be a number without decimals.
+/// The fault of what must be a number without decimals.
 #[tactic(auto, unfolding(cobol_grammar::specs::expr_forms::Fault::whole_fault_at))]
 pub fn whole_fault_at(position: Position, kind: ValueKind) -> Option<Note>
     ensures { result ≡ faults.whole_fault_at position kind }
@@ -60,7 +60,7 @@ pub fn whole_fault_at(position: Position, kind: ValueKind) -> Option<Note>
     }
 }
 
-/// The fault of what stands in a window.
+/// The fault of an expression of a window.
 pub fn whole_fault(side: &Side) -> Option<Note>
     ensures { result ≡ faults.whole_fault side.now }
 {
@@ -78,7 +78,7 @@ pub fn value_fault(side: &Side) -> Option<Note>
     }
 }
 
-/// The fault of what stands as a condition.
+/// The fault of what is used as a condition.
 #[tactic(auto, unfolding(cobol_grammar::specs::expr_forms::Fault::condition_fault))]
 pub fn condition_fault(side: &Side) -> Option<Note>
     ensures { result ≡ faults.condition_fault side.now }
@@ -172,7 +172,7 @@ pub fn is_condition(kind: ValueKind) -> bool
     }
 }
 
-/// The fault of a name with so many subscripts behind it, and with a window or none.
+/// The fault of a name with so many subscripts after it, and with a window or none.
 #[tactic(auto, unfolding(cobol_grammar::specs::expr_forms::Fault::found_fault))]
 pub fn found_fault(found: Referent, subs: usize, windowed: bool, position: Position) -> Option<Note>
     ensures { result ≡ faults.found_fault found subs windowed position }

@@ -144,7 +144,7 @@ pub fn literal_kind(literal: &Operand) -> ValueKind
     }
 }
 
-/// What stands in parentheses, or behind a sign that is dropped.
+/// What is in parentheses, or after a sign that is dropped.
 #[tactic(auto, unfolding(cobol_grammar::specs::expr_forms::Side::sum_side))]
 pub fn sum_side(position: Position, side: Side) -> Side
     ensures { result ≡ sides.sum_side position side }
@@ -158,7 +158,7 @@ pub fn sum_side(position: Position, side: Side) -> Side
     }
 }
 
-/// The negative.
+/// The negative of a side.
 #[tactic(auto, unfolding(cobol_grammar::specs::expr_forms::Side::negated))]
 pub fn negated(alloc: Global, position: Position, side: Side) -> Result<Side, NoMemory>
     ensures { Makes (sides.negated position side) result }
@@ -185,7 +185,7 @@ fn enclosed_what(what: ParsedExpr) -> ParsedExpr
     }
 }
 
-/// What stands in parentheses in which a condition may stand too.
+/// What is in parentheses that may also hold a condition.
 #[tactic(auto, unfolding(cobol_grammar::specs::expr_forms::Side::enclosed))]
 pub fn enclosed(position: Position, side: Side) -> Side
     ensures { result ≡ sides.enclosed position side }

@@ -28,7 +28,7 @@ pub fn at_operand(cursor: &Cursor<'_>) -> bool
     sees_literal(cursor) || sees_name(cursor)
 }
 
-/// Whether a colon is next: what stands behind the parenthesis is in a window.
+/// Whether a colon is next: what comes after the parenthesis is then a window.
 pub fn at_colon(cursor: &Cursor<'_>) -> bool
     ensures { result ≡ form.is_next (is_mark colon) cursor.now }
 {

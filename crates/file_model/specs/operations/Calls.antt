@@ -21,19 +21,29 @@ pub record Called (at : ℕ) (Tells : Option (List MemFile) → Option (List Mem
     (fails : Bool) (old new : List Seen) : Type 0 where
   pub before : Seen
   pub after : Seen
+  -- the device at the place, before the call
   pub here : slice_get old at ≡ Some before
+  -- and the device there after it
   pub there : new ≡ slice_set old at after
+  -- its name is the same
   pub named : after.name ≡ before.name
+  -- what the call says of its files holds
   pub tells : Tells before.files after.files
+  -- where it told its files, it still does
   pub telling : IsSome before.files → IsSome after.files
+  -- its count of failures is as the call says
   pub counted : Counts fails before.faults after.faults
 
--- the device at a place was taken off: it stands right behind the bench
+-- the device at a place was taken off: it comes right after the bench
 pub record TakenOff (at left left_now : ℕ) (old new : List Seen) : Type 0 where
   pub device : Seen
+  -- one device fewer is on the bench
   pub less : suc left_now ≡ left
+  -- the device at the place
   pub here : slice_get old at ≡ Some device
+  -- the others are on the bench, in their order
   pub bench : take left_now new ≡ take at (take left old) ++ drop (suc at) (take left old)
+  -- it comes right after them
   pub behind : drop left_now new ≡ device ∷ drop left old
 
 -- ---- the devices after an operation
@@ -44,6 +54,7 @@ SameDevice device now =
     (now.name ≡ device.name) × (now.faults ≡ device.faults)
     × (IsSome device.files → IsSome now.files)
 
+-- the device, if there was one, is the same but for its files
 abbrev pub SameBut : Option Seen → Seen → Type 0
 SameBut None now = Unit {0}
 SameBut (Some device) now = SameDevice device now
@@ -51,22 +62,33 @@ SameBut (Some device) now = SameDevice device now
 -- at most the files of the first device of that name changed
 pub record Kept (name : List ℕ) (left left_now : ℕ) (old new : List Seen) : Type 0 where
   pub device : Seen
+  -- as many devices are on the bench
   pub count : left_now ≡ left
+  -- the first device of the name is this one now
   pub bench : take left new ≡ device_put name device (take left old)
+  -- what comes after the bench is the same
   pub behind : drop left new ≡ drop left old
+  -- at most its files changed
   pub same : SameBut (device_found name (take left old)) device
 
--- the first device of that name failed: it stands right behind the bench
+-- the first device of that name failed: it comes right after the bench
 pub record TookOff (name : List ℕ) (left left_now : ℕ) (old new : List Seen) : Type 0 where
   pub before : Seen
   pub after : Seen
+  -- one device fewer is on the bench
   pub less : suc left_now ≡ left
+  -- it was the first of its name
   pub found : device_found name (take left old) ≡ Some before
+  -- the others are on the bench, in their order
   pub bench : take left_now new ≡ device_taken name (take left old)
+  -- it comes right after them
   pub behind : drop left_now new ≡ after ∷ drop left old
+  -- its name is the same
   pub named : after.name ≡ before.name
+  -- its count of failures rose
   pub counted : Counts true before.faults after.faults
 
+-- what an operation leaves of the devices, by how it came out
 abbrev pub Leaves : Tried → List ℕ → (left left_now : ℕ) → (old new : List Seen) → Type 0
 Leaves tried.Failed name left left_now old new = TookOff name left left_now old new
 Leaves (tried.Status status) name left left_now old new = Kept name left left_now old new

@@ -16,17 +16,18 @@ use Rattle.file_model.specs.operations.Seen.{Seen, device_found, device_taken}
 abbrev pub is_used : List Address → List ℕ → Bool
 is_used addresses name = list_any (λ (address : Address). bytes_eq address.device name) addresses
 
--- it is one of these
+-- the name is one of these
 abbrev pub is_among : List (List ℕ) → List ℕ → Bool
 is_among names name = list_any (λ (other : List ℕ). bytes_eq other name) names
 
 -- ---- devices of which none failed
 
+-- one that was used changed at most by its files, and any other not at all
 abbrev pub TouchedOne : Bool → Seen → Seen → Type 0
 TouchedOne true device now = SameDevice device now
 TouchedOne false device now = now ≡ device
 
--- at most the first device of each name that is used changed, and only its files
+-- the first device of each name that is used changed at most, and only its files
 abbrev pub Touched : (List ℕ → Bool) → (old new : List Seen) → Type 0
 Touched used [] [] = Unit {0}
 Touched used (device ∷ old) (now ∷ new) =
@@ -45,8 +46,10 @@ all_taken (name ∷ names) devices = device_taken name (all_taken names devices)
 -- the first device of that name, which failed: its count rose
 pub record FailedAs (name : List ℕ) (devices : List Seen) (after : Seen) : Type 0 where
   pub before : Seen
+  -- it was the first of its name
   pub first : device_found name devices ≡ Some before
   pub named : after.name ≡ name
+  -- its count of failures rose
   pub counted : Counts true before.faults after.faults
 
 -- the devices of these names, which are used, failed, each once; the last of them failed first
@@ -58,23 +61,31 @@ Failed used (name ∷ names) old (after ∷ fallen) =
 Failed used [] old (after ∷ fallen) = ⊥
 Failed used (name ∷ names) old [] = ⊥
 
--- what is left of a bench: the devices of these names failed and stand behind it, and the others
--- stand in their order, of which at most the first of each name that is used changed, by its files
+-- what is left of a bench: the devices of these names failed and follow it, and the others
+-- are in their order, of which at most the first of each name that is used changed, by its files
 pub record LeftOf (used : List ℕ → Bool) (gone : List (List ℕ)) (left left_now : ℕ)
     (old new : List Seen) : Type 0 where
+  -- the devices before those that failed are taken off
   pub still : List Seen
+  -- the devices that failed
   pub fallen : List Seen
+  -- at most the files of devices that are used changed
   pub touched : Touched used (take left old) still
+  -- the others are on the bench
   pub count : left_now + length gone ≡ left
+  -- without those that failed, in their order
   pub bench : take left_now new ≡ all_taken gone still
+  -- those of these names failed
   pub failed : Failed used gone (take left old) fallen
+  -- and come after the bench
   pub behind : drop left_now new ≡ fallen ++ drop left old
 
--- the name of the device right behind the bench
+-- the name of the device right after the bench
 abbrev pub name_of : Option Seen → List ℕ
 name_of None = []
 name_of (Some device) = device.name
 
+-- the name of the first device after so many on the bench
 abbrev pub name_behind : ℕ → List Seen → List ℕ
 name_behind left devices = name_of (slice_get devices left)
 
@@ -86,6 +97,7 @@ gone_with tried.NoMemory name gone = gone
 
 -- ---- the files of the program on devices that failed
 
+-- the file isn't open, where that is asked
 abbrev pub IsShut : Bool → FileRow → Type 0
 IsShut true row = row.how ≡ None
 IsShut false row = Unit {0}

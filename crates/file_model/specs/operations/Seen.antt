@@ -6,11 +6,14 @@ use Rattle.file_model.specs.declared.mem_file.MemFile.{MemFile}
 -- a device: its name, its files, where it tells them, and how often it failed
 pub record Seen : Type 0 where
   pub name : List ℕ
+  -- the files, if the device tells them
   pub files : Option (List MemFile)
+  -- how often it failed
   pub faults : ℕ
 
 -- ---- the devices of a name, of which the first counts
 
+-- the first device of that name
 abbrev pub device_found : List ℕ → List Seen → Option Seen
 device_found name [] = None
 device_found name (device ∷ devices) =
@@ -35,6 +38,8 @@ Nowhere name devices = device_found name devices ≡ None
 -- the first device of that name is at that place
 pub record IsFirstAt (name : List ℕ) (devices : List Seen) (at : ℕ) : Type 0 where
   pub within : at < length devices
+  -- the device there has the name
   pub here : IfSome (slice_get devices at) (λ device. bytes_eq device.name name ≡ true)
+  -- none before it has
   pub others : (k : ℕ) → k < at →
       IfSome (slice_get devices k) (λ device. bytes_eq device.name name ≡ false)

@@ -11,7 +11,7 @@ use std::io::{
     BufReader, BufWriter, Error, ErrorKind, Read, Result as IoResult, Seek, SeekFrom, Write,
 };
 
-/// An open file by what is done with it: a record that may be put back isn't read ahead of.
+/// An open file by what is done with it: where a record may be rewritten, nothing is read ahead.
 #[derive(Drop)]
 pub enum Handle<F: Read + Write + Seek + Drop> {
     Input(BufReader<F>),
@@ -19,6 +19,7 @@ pub enum Handle<F: Read + Write + Seek + Drop> {
     InOut(F),
 }
 
+/// An open file, and where its records begin.
 #[derive(Drop)]
 pub struct FolderFile<F: Read + Write + Seek + Drop> {
     pub name: Text,
@@ -42,7 +43,7 @@ fn for_both<R: Files>(folder: &R, path: &str) -> IoResult<Handle<R::File>> {
     Ok(Handle::InOut(file))
 }
 
-// OUTPUT makes or empties the file; EXTEND wants it to be there.
+// Opens a file for output: OUTPUT makes or empties it, EXTEND needs it to exist.
 fn for_output<R: Files>(
     alloc: Global,
     folder: &R,
@@ -79,8 +80,8 @@ fn handle_for<R: Files>(
 
 const PIECE: usize = 512;
 
-// Reads until the buffer is full or the file ends. What a reader leaves in a buffer of which it says
-// that it gave nothing isn't known, so the bytes come by a buffer of its own.
+// Reads until the buffer is full or the file ends. What a reader leaves in a buffer when it says
+// that it gave nothing isn't known, so the bytes are read into a separate buffer.
 fn fill<F: Read>(file: &mut F, into: &mut [u8]) -> IoResult<usize>
     ensures bound { IfOk result (λ n. n ≤ length into.old) }
     ensures ungiven { IfOk result (λ n. n ≡ 0 → into.new ≡ into.old) }
@@ -107,7 +108,7 @@ fn fill<F: Read>(file: &mut F, into: &mut [u8]) -> IoResult<usize>
 }
 
 impl<F: Read + Write + Seek + Drop> FolderFile<F> {
-    /// Opens the file at this path of the folder.
+    /// Opens the file at this path of the folder; InvalidInput where the name isn't text.
     pub fn open<R: Files<File = F>>(
         alloc: Global,
         folder: &R,
@@ -129,7 +130,7 @@ impl<F: Read + Write + Seek + Drop> FolderFile<F> {
         })
     }
 
-    /// Puts what comes next into the front of `into`, and gives how many bytes there were.
+    /// Puts what comes next at the front of `into`, and answers how many bytes there were.
     pub fn read(&mut self, into: &mut [u8]) -> IoResult<usize>
         ensures bound { IfOk result (λ n. n ≤ length into.old) }
         ensures ungiven { IfOk result (λ n. n ≡ 0 → into.new ≡ into.old) }
@@ -146,7 +147,7 @@ impl<F: Read + Write + Seek + Drop> FolderFile<F> {
         Ok(count)
     }
 
-    /// Puts bytes behind those that were written. A file that is read takes none.
+    /// Adds bytes after those that were written; InvalidInput where the file isn't open for output.
     pub fn write(&mut self, bytes: &[u8]) -> IoResult<()> {
         match &mut self.handle {
             Handle::Output(writer) => writer.write_all(bytes),
@@ -155,7 +156,8 @@ impl<F: Read + Write + Seek + Drop> FolderFile<F> {
         }
     }
 
-    /// Puts a record in the place of the one that was read last.
+    /// Replaces the record that was read last; InvalidInput where there is none, or the file isn't
+    /// open for I-O.
     pub fn rewrite(&mut self, bytes: &[u8]) -> IoResult<()> {
         let Handle::InOut(file) = &mut self.handle else {
             return Err(Error::from(ErrorKind::InvalidInput));
@@ -169,7 +171,7 @@ impl<F: Read + Write + Seek + Drop> FolderFile<F> {
         Ok(())
     }
 
-    /// Gives out what is buffered.
+    /// Writes out what is buffered.
     pub fn finish(&mut self) -> IoResult<()> {
         match &mut self.handle {
             Handle::Output(writer) => writer.flush(),

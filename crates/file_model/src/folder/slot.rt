@@ -1,8 +1,9 @@
-//! A writer that is given its file later, so that a buffer is had before anything in the folder
+//! A writer that gets its file later, so that its buffer is allocated before anything in the folder
 //! changes.
 
 use std::io::{Error, ErrorKind, Result as IoResult, Write};
 
+/// A writer, once it has its file.
 #[derive(Drop)]
 pub struct Slot<F> {
     pub file: Option<F>,

@@ -11,7 +11,7 @@ use cob_tree::FileEntry;
 
 const COLON: u8 = b':';
 
-// How many bytes stand before the first colon.
+// How many bytes come before the first colon.
 fn colon_at(assign: &[u8]) -> usize
     ensures count { result ≡ length (before_colon assign.now) }
     ensures within { result ≤ length assign.now }
@@ -97,7 +97,7 @@ fn can_be_opened(name: &[u8]) -> bool
     all_three(begins, named, short)
 }
 
-// Whether two files of a program are at one place.
+// Whether two files of a program are at the same place.
 fn same_place(assign: &[u8], other: &[u8]) -> bool
     ensures { result ≡ same_address (address_of assign.now) (address_of other.now) }
 {
@@ -133,7 +133,7 @@ fn is_taken(files: &[FileEntry], rows: &[FileRow], assign: &[u8]) -> bool
     false
 }
 
-/// Whether OPEN is refused before a device is asked: the name can't be opened, or another file of
+/// Whether OPEN is refused before a device is called: the name can't be opened, or another file of
 /// the program is open there.
 pub fn is_refused(files: &[FileEntry], rows: &[FileRow], assign: &[u8]) -> bool
     requires { length files.now ≤ length rows.now }

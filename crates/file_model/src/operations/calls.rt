@@ -81,7 +81,7 @@ fn rewrite_one(device: &mut Box<dyn Device>, name: &[u8], bytes: &[u8]) -> Put
     device.rewrite_last(name, bytes)
 }
 
-/// Calls the device at that place.
+/// Calls the device at that place of the bench.
 pub fn open_at(bench: &mut Bench, at: usize, name: &[u8], how: How) -> Opened
     requires { at < bench.old.left }
     ensures left { bench.new.left ≡ bench.old.left }
@@ -93,7 +93,7 @@ pub fn open_at(bench: &mut Bench, at: usize, name: &[u8], how: How) -> Opened
     answer
 }
 
-/// Calls the device at that place.
+/// Calls the device at that place of the bench.
 pub fn close_at(bench: &mut Bench, at: usize, name: &[u8]) -> Put
     requires { at < bench.old.left }
     ensures left { bench.new.left ≡ bench.old.left }
@@ -106,7 +106,7 @@ pub fn close_at(bench: &mut Bench, at: usize, name: &[u8]) -> Put
     answer
 }
 
-/// Calls the device at that place.
+/// Calls the device at that place of the bench.
 pub fn read_at(bench: &mut Bench, at: usize, name: &[u8], into: &mut [u8]) -> Got
     requires { at < bench.old.left }
     ensures left { bench.new.left ≡ bench.old.left }
@@ -119,7 +119,7 @@ pub fn read_at(bench: &mut Bench, at: usize, name: &[u8], into: &mut [u8]) -> Go
     answer
 }
 
-/// Calls the device at that place.
+/// Calls the device at that place of the bench.
 pub fn write_at(bench: &mut Bench, at: usize, name: &[u8], bytes: &[u8]) -> Put
     requires { at < bench.old.left }
     ensures left { bench.new.left ≡ bench.old.left }
@@ -131,7 +131,7 @@ pub fn write_at(bench: &mut Bench, at: usize, name: &[u8], bytes: &[u8]) -> Put
     answer
 }
 
-/// Calls the device at that place.
+/// Calls the device at that place of the bench.
 pub fn rewrite_at(bench: &mut Bench, at: usize, name: &[u8], bytes: &[u8]) -> Put
     requires { at < bench.old.left }
     ensures left { bench.new.left ≡ bench.old.left }

@@ -29,7 +29,7 @@ fn shut(table: &mut FileTable, file: u32) -> Tried
     Tried::Status(0)
 }
 
-/// CLOSE: 42 where the file isn't open. It takes no memory.
+/// CLOSE: status 42 where the file isn't open. It allocates nothing.
 pub fn close(bench: &mut Bench, table: &mut FileTable, files: &[FileEntry], file: u32) -> Tried
     requires rows { length table.old.rows ≡ length files.now }
     requires few { length files.now < 2 ^ 32 }

@@ -27,8 +27,8 @@ fn opened(table: &mut FileTable, file: u32, how: How) -> Tried
     Tried::Status(0)
 }
 
-/// OPEN: 41 where the file is open; 30 where its name can't be opened, another file of the program
-/// is open there, or no device of the name is on the bench; 35 where it is missing.
+/// OPEN: status 41 where the file is open; 30 where its name can't be opened, another file of the
+/// program is open there, or no device of the name is on the bench; 35 where it is missing.
 pub fn open(
     bench: &mut Bench,
     table: &mut FileTable,

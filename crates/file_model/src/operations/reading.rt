@@ -17,7 +17,7 @@ use crate::operations::watched::Watched;
 use crate::{Bench, Device, FileTable, Got};
 use cob_tree::FileEntry;
 
-// Puts spaces behind so many bytes.
+// Fills the rest after so many bytes with spaces.
 fn pad(into: &mut [u8], from: usize)
     requires { from ≤ length into.old }
     ensures { into.new ≡ padded_to (length into.old) (take from into.old) }
@@ -36,7 +36,7 @@ fn ended(table: &mut FileTable, file: u32) -> Tried
     Tried::Status(10)
 }
 
-// No bytes are the end.
+// Notes what a READ gave: no bytes are the end.
 fn given(table: &mut FileTable, file: u32, into: &mut [u8], size: usize) -> Tried
     requires file { file < length table.old.rows }
     requires size { size ≤ length into.old }
@@ -55,8 +55,8 @@ fn given(table: &mut FileTable, file: u32, into: &mut [u8], size: usize) -> Trie
     Tried::Status(0)
 }
 
-/// READ: 47 unless the file is open as INPUT or I-O, 46 after its end, and 10 at it. With status 0
-/// `into` has the record, with spaces behind a short one.
+/// READ: status 47 unless the file is open as INPUT or I-O, 46 after its end, and 10 at its end.
+/// With status 0 `into` has the record, with spaces after a short one.
 pub fn read(
     bench: &mut Bench,
     table: &mut FileTable,

@@ -14,7 +14,7 @@ use crate::operations::watched::Watched;
 use crate::{Bench, Device, FileTable};
 use cob_tree::FileEntry;
 
-// Takes a device off the bench: it stands right behind those that are left.
+// Takes a device off the bench: it becomes the first one after those that are left.
 fn take_off(bench: &mut Bench, at: usize)
     requires { at < bench.old.left }
     ensures within { bench.new.left < vec_len bench.new.devices }

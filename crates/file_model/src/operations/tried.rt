@@ -10,9 +10,10 @@ use crate::FileTable;
 pub enum Tried {
     /// It has this status, and the table has noted it.
     Status(u8),
-    /// The device failed: it stands right behind the bench, and its files are closed in the table.
+    /// The device failed: it is the first one after those on the bench, and its files are closed in
+    /// the table.
     Failed,
-    /// The device wanted memory, and nothing was done.
+    /// The device ran out of memory, and nothing was done.
     NoMemory,
 }
 

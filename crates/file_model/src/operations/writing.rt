@@ -15,7 +15,7 @@ use crate::operations::watched::Watched;
 use crate::{Bench, Device, FileTable, Put};
 use cob_tree::FileEntry;
 
-/// WRITE: 48 unless the file is open as OUTPUT or EXTEND.
+/// WRITE: status 48 unless the file is open as OUTPUT or EXTEND.
 pub fn write(
     bench: &mut Bench,
     table: &mut FileTable,
@@ -57,8 +57,8 @@ pub fn write(
     }
 }
 
-/// REWRITE: 49 unless the file is open as I-O, and 43 unless the last operation on it was a READ
-/// that gave a record.
+/// REWRITE: status 49 unless the file is open as I-O, and 43 unless the last operation on it was a
+/// READ that gave a record.
 pub fn rewrite(
     bench: &mut Bench,
     table: &mut FileTable,

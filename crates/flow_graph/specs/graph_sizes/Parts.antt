@@ -1,4 +1,4 @@
--- How large what stands in trees is.
+-- How large what is in trees is.
 use Rattle.std.specs.Prelude.{ℕ, Bool, if◌then◌else◌}
 use Rattle.control_flow_theory.specs.lowering.Completes.{size, sizes}
 use Rattle.control_flow_theory.specs.graph_rules.Shapes.{arm_stmts}
@@ -7,6 +7,7 @@ use Rattle.branch_tree.specs.declared.tree.Leaves.{Leaves}
 use Rattle.branch_tree.specs.declared.tree.Piece.{Piece}
 use Rattle.branch_tree.specs.declared.tree.Tree.{Tree}
 
+-- how many statements a piece of a body is
 abbrev pub piece_size : Piece → ℕ
 piece_size piece = size (seen_piece piece)
 
@@ -14,9 +15,10 @@ piece_size piece = size (seen_piece piece)
 abbrev pub arm_size : Tree → ℕ
 arm_size arm = sizes (arm_stmts (seen_tree arm))
 
--- a tree within a loop
+-- how many statements a tree takes within a loop
 abbrev pub within_size : Leaves → Tree → ℕ
 within_size leaves tree = sizes (stated leaves (seen_tree tree))
 
+-- none where there is nothing, else one
 abbrev pub unless : Bool → ℕ
 unless nothing = if nothing then 0 else 1

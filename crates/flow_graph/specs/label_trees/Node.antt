@@ -31,23 +31,30 @@ IsPlaced telling program =
 -- the table of a program that can be lowered
 pub record IsTableOf (telling : LoweringContext) (spots : List Continuation)
     (program : Program) : Type 0 where
+  -- the places of the program are numbered so
   pub placed : IsPlaced telling program
+  -- at each place is its rest
   pub rests : AreRestsOf telling program spots
+  -- the program is a source
   pub source : IsSource (flow_facts_by telling) (control_of program)
 
 -- each rest has a place, and goes on within the table
 pub record IsWhole (telling : LoweringContext) (spots : List Continuation) : Type 0 where
+  -- there is a rest for each place
   pub count : length spots ≡ telling.layout.now.end
+  -- each rest goes on within the table
   pub fit : AllFit telling.layout.now.end 0 spots
+  -- there are few places
   pub small : telling.layout.now.end < 2 ^ 30
 
--- so control goes on in a range
+-- these are where the escapes of a rest lead in a range, in any program with these places
 abbrev pub LeavesIn : LoweringContext → code.Range → Successors → EscapeTargets → Type 0
 LeavesIn telling range onward found =
     (program : Program) (placed : IsPlaced telling program) →
     AreEscapeTargets found onward.last
     (leaving_by telling.layout.now (graph_of telling program (seen_range range) placed) onward)
 
+-- the target is where control goes on in the range, in any program with these places
 abbrev pub GoesOnIn : LoweringContext → code.Range → Successors → JumpTarget → Type 0
 GoesOnIn telling range onward found =
     (program : Program) (placed : IsPlaced telling program) →
@@ -59,11 +66,12 @@ abbrev pub node_in : LoweringContext → Program → code.Range → graph.Label 
 node_in telling program range label =
     (lowered (flow_facts_by telling) (control_of program)).node (seen_range range) label
 
--- no loop with a body of its own
+-- the statement is no loop with a body of its own
 abbrev pub is_no_loop : language.Stmt → Bool
 is_no_loop (language.Loop control (language.Nested body)) = false
 is_no_loop _ = true
 
+-- the statement isn't a loop with a body of its own
 abbrev pub HoldsNoLoop : Stmt → Type 0
 HoldsNoLoop stmt = (last : ℕ) → is_no_loop (seen last stmt) ≡ true
 
@@ -91,17 +99,23 @@ returns_at (Some exit) number = exit == number
 
 -- two ranges go on alike from a rest
 pub record GoAlike (range other : code.Range) (onward : Successors) : Type 0 where
+  -- both return at the end of the rest's paragraph, or neither
   pub paragraph : returns_at range.exit onward.paragraph ≡ returns_at other.exit onward.paragraph
+  -- and so at the end of its section's last paragraph
   pub last : returns_at range.exit onward.last ≡ returns_at other.exit onward.last
 
--- from the rest at a place, and from all that the tree may go on at behind it
+-- from the rest at a place, and from all that the tree may go on at after it
 pub record GoAlikeFrom (spots : List Continuation) (range other : code.Range) (place : ℕ) : Type 0
   where
+    -- the places from which both go on alike
     pub along : ℕ → Bool
+    -- this place is one of them
     pub here : along place ≡ true
+    -- and so is the place at which such a tree goes on
     pub behind : (at next : ℕ) (spot : Continuation) → along at ≡ true →
         slice_get spots at ≡ Some spot →
         spot.onward.behind ≡ Some next → along next ≡ true
+    -- from each of them both go on alike
     pub alike : (at : ℕ) (spot : Continuation) → along at ≡ true → slice_get spots at ≡ Some spot →
         GoAlike range other spot.onward
 
@@ -112,6 +126,7 @@ IsNodeAlike telling spots range place label made =
     (other : code.Range) → GoAlikeFrom spots range other place →
     IsNodeIn telling spots other label made
 
+-- it is the tree of the loop's turn in each range that goes on alike
 abbrev pub IsTurnAlike : LoweringContext → Continuation → code.Range → ℕ → Bool → tree.Tree → Type 0
 IsTurnAlike telling spot range place is_head made =
     (other : code.Range) → GoAlike range other spot.onward →

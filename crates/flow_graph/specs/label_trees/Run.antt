@@ -32,13 +32,15 @@ IsStraightRunAlike telling spots range place run = (other : code.Range) (spot : 
     slice_get spots place ≡ Some spot → GoAlike range other spot.onward →
     IsStraightRunIn telling spots other place run
 
--- the next place is the one behind the rest, later in the table
+-- the next place is the one after the rest, later in the table
 pub record IsBehind (spots : List Continuation) (place next : ℕ) : Type 0 where
   pub later : place < next
   pub within : next < length spots
+  -- there the tree of the rest goes on
   pub behind : (spot : Continuation) → slice_get spots place ≡ Some spot →
       spot.onward.behind ≡ Some next
 
+-- the next place, if there is one, is the one after the rest
 abbrev pub GoesBehind : List Continuation → ℕ → Option ℕ → Type 0
 GoesBehind spots place None = Unit {0}
 GoesBehind spots place (Some next) = IsBehind spots place next

@@ -18,14 +18,17 @@ pub record GoesSo (spots : List Continuation) (range : code.Range) (place : ℕ)
     (passing : Passing) : Type 0
   where
     pub spot : Continuation
+    -- the rest at the place
     pub there : slice_get spots place ≡ Some spot
+    -- the range goes on so from it
     pub goes : passing_of range.exit spot.onward ≡ passing
 
--- a rest stands in the paragraph and section of another one
+-- the one rest is in the paragraph and section of the other
 abbrev pub stands_within : Successors → Successors → Bool
 stands_within onward behind =
     if behind.paragraph == onward.paragraph then behind.last == onward.last else false
 
+-- so does this rest, if there is one
 abbrev pub found_within : Successors → Option Continuation → Bool
 found_within onward None = true
 found_within onward (Some spot) = stands_within onward spot.onward

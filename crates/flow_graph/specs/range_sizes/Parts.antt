@@ -14,8 +14,11 @@ use Rattle.flow_graph.specs.declared.range_sizes.exits.Passing.{Passing}
 
 -- so many statements this tree has, and to these labels it jumps
 pub record IsPartOf (tree : graph.Tree) (count : ℕ) (jumps : List ℕ) : Type 0 where
+  -- the count is of the tree's statements, as far as it goes
   pub size : count ≡ min (tree_size tree) (2 ^ 64 - 1)
+  -- it jumps to each of these labels
   pub sound : (label : ℕ) → Holds jumps label → JumpsTo label (graph.end_of tree)
+  -- and to no other
   pub all : (label : ℕ) → JumpsTo label (graph.end_of tree) → Holds jumps label
 
 -- so does the tree at a label, whatever the program

@@ -17,9 +17,13 @@ use Rattle.flow_graph.specs.declared.range_sizes.segment.Segment.{Segment}
 
 -- a tree has so many statements of its own, and those of the next one; and it ends as that one
 pub record IsLonger (first next : graph.Tree) (count : ℕ) : Type 0 where
+  -- how many statements it has of its own
   pub own : ℕ
+  -- the count is of them, as far as it goes
   pub size : count ≡ min own (2 ^ 64 - 1)
+  -- with those of the next tree they are all
   pub sum : tree_size first ≡ own + tree_size next
+  -- both trees end alike
   pub end : graph.end_of first ≡ graph.end_of next
 
 -- so is the tree before a place, by the one before the next place, in each range that goes on so
@@ -27,8 +31,10 @@ pub record IsLonger (first next : graph.Tree) (count : ℕ) : Type 0 where
 pub record IsSegment (telling : LoweringContext) (spots : List Continuation) (passing : Passing)
     (stretch : Segment) (next : ℕ) : Type 0 where
   pub there : stretch.place < length spots
+  -- a range goes on from the next place as it does from this one
   pub goes : (range : code.Range) → GoesSo spots range stretch.place passing →
       GoesSo spots range next passing
+  -- the tree at this place has so many statements more than that at the next one
   pub longer : (range : code.Range) → GoesSo spots range stretch.place passing →
       (program : Program) → IsTableOf telling spots program →
       IsLonger (node_in telling program range (point stretch.place))

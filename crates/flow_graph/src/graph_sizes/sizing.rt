@@ -26,7 +26,7 @@ fn jump_size(leaves: &Leaves, to: Label) -> u64
     }
 }
 
-/// One, unless this holds.
+/// 0 where this holds, 1 otherwise.
 fn unless(nothing: bool) -> u64
     ensures { result ≡ unless nothing }
 {
@@ -58,7 +58,7 @@ fn last_size(end: &End) -> u64
     }
 }
 
-/// The statements of a body; past the last number of the type that number, as all these counts.
+/// The statements of a body; as all these counts, at most the largest `u64`.
 #[cycle(sizing)]
 fn body_size(body: &VecDeque<Piece>) -> u64
     ensures { result ≡ min (sum_by piece_size body.now.items) (2 ^ 64 - 1) }
@@ -178,7 +178,7 @@ fn node_size(node: &Node) -> u64
     tree_size(&node.tree).saturating_add(1)
 }
 
-/// How large the graph is; past the last number of the type that number.
+/// How large the graph is: its labels and statements, at most the largest `u64`.
 #[tactic(auto, using(crate::proofs::graph_sizes_lemmas::SizeRows::nodes_size_is))]
 pub fn graph_size(graph: &Graph) -> u64
     ensures { result ≡ min (graph_size (seen_graph graph.now)) (2 ^ 64 - 1) }

@@ -17,7 +17,7 @@ use statement_lowering::{
 };
 use std::alloc::Global;
 
-/// Where what leaves a rest goes on in a range.
+/// Where control that leaves a rest goes on, in a range.
 pub fn leaving_of(onward: &Successors, range: Range, telling: &LoweringContext<'_>) -> EscapeTargets
     ensures { LeavesIn telling.now range onward.now result }
 {
@@ -31,7 +31,7 @@ pub fn leaving_of(onward: &Successors, range: Range, telling: &LoweringContext<'
     }
 }
 
-/// The continuation behind a rest's list in a range.
+/// The continuation after a rest's list, in a range.
 pub fn after_of(onward: &Successors, range: Range, telling: &LoweringContext<'_>) -> JumpTarget
     ensures { GoesOnIn telling.now range onward.now result }
 {
@@ -39,7 +39,7 @@ pub fn after_of(onward: &Successors, range: Range, telling: &LoweringContext<'_>
     ended_by(&onward.after, &end)
 }
 
-/// The tree at the point before a place. It goes on at later places, at the last one at most.
+/// The tree at the point before a place. It goes on at later places only, up to the last one.
 fn point_tree(
     alloc: Global,
     spots: &[Continuation<'_>],
@@ -138,7 +138,7 @@ fn turn_tree(
     }
 }
 
-/// The tree at a label. It is that of each range that goes on alike from there.
+/// The tree at a label. It is the same in all ranges that go on alike from there.
 pub fn label_tree(
     alloc: Global,
     spots: &[Continuation<'_>],

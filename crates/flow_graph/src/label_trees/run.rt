@@ -1,4 +1,4 @@
-//! What a tree has from its own list of statements.
+//! The part of a tree that comes from its own list of statements.
 
 ghost use Rattle.std.specs.Prelude.{◌<◌, length, IfOk};
 ghost use Rattle.flow_graph.specs.label_trees.Node.{IsWhole};
@@ -14,14 +14,14 @@ use statement_lowering::{LoweringContext, RestContext, lower_rest};
 use std::alloc::Global;
 
 /// A tree up to where it goes on as the tree at another place, and that place; or the whole tree,
-/// and none.
+/// and no place.
 #[derive(Drop)]
 pub struct StraightRun {
     pub tree: Tree,
     pub next: Option<u32>,
 }
 
-/// The own run of the tree at the point before a place: it goes along the statements of this place's
+/// The own run of the tree at the point before a place: it takes the statements of this place's
 /// list alone, however long the tree is.
 pub fn straight_run(
     alloc: Global,

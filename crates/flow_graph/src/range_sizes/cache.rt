@@ -1,4 +1,4 @@
-//! What is known of the trees at labels.
+//! What has been counted of the trees at labels.
 
 ghost use Rattle.std.specs.Prelude.{◌≡◌, ◌^◌, ◌<◌, ◌≤◌, length, IfOk, OnOk};
 ghost use Rattle.control_flow_theory.specs.semantics.Graph.{end_of};
@@ -17,7 +17,7 @@ use pending_returns::levels::Reach;
 use statement_lowering::continuations::Continuation;
 use std::alloc::Global;
 
-/// The numbers of the parts that are kept of a label, by how a range goes on from there.
+/// The numbers of the counts that are kept for a label, by how a range goes on from there.
 #[derive(Clone, Copy)]
 struct Row {
     falls: Option<u32>,
@@ -25,15 +25,15 @@ struct Row {
     leaves: Option<u32>,
 }
 
-/// The parts that are kept of the trees at labels.
+/// The counts that are kept of the trees at labels.
 #[derive(Drop)]
 pub struct TreeSizeCache {
     rows: Vec<Row>,
     parts: Vec<TreeCount>,
     pub jumps: Vec<Jumps>,
-    /// Serves to have each label to which a tree jumps once.
+    /// Used to list each label to which a tree jumps once.
     seen: Reach,
-    /// Whether ranges that go on alike from a rest have one tree there.
+    /// Whether ranges that go on alike from a rest have the same tree there.
     pub shared: bool,
 }
 
@@ -60,7 +60,7 @@ fn with_number(row: Row, passing: Passing, number: u32) -> Row
 }
 
 impl TreeSizeCache {
-    /// No part yet.
+    /// A cache with no count yet.
     pub fn new(alloc: Global, spots: &[Continuation<'_>]) -> Result<TreeSizeCache, NoMemory>
         requires small { length spots.now < 2 ^ 30 }
         ensures { IfOk result (IsKnownAnyhow spots.now) }
@@ -81,7 +81,7 @@ impl TreeSizeCache {
         })
     }
 
-    /// The part that is kept of the tree at a label.
+    /// The count that is kept of the tree at a label, where there is one.
     pub fn kept(&self, label: u32, passing: Passing) -> Option<TreeCount>
         ensures { result ≡ kept_in self.now label passing }
     {
@@ -97,7 +97,7 @@ impl TreeSizeCache {
         }
     }
 
-    /// Keeps the part of the tree at a label, while parts can be numbered.
+    /// Keeps the count of the tree at a label, as long as 32 bits number the counts.
     pub fn keep(&mut self, label: u32, passing: Passing, part: TreeCount) -> Result<(), NoMemory>
         requires there { label < length self.old.rows.items }
         ensures kept { OnOk result (Keeps label passing part self.old self.new) }
@@ -115,7 +115,7 @@ impl TreeSizeCache {
         Ok(())
     }
 
-    /// What is counted of a tree; its jumps are kept.
+    /// Counts a tree; its jumps are kept.
     pub fn count(&mut self, alloc: Global, tree: &Tree) -> Result<TreeCount, NoMemory>
         requires marked { IsMarked self.old.seen.places.items self.old.seen.marks.items }
         requires below { JumpBelow (length self.old.seen.marks.items) (end_of (seen_tree tree.now)) }

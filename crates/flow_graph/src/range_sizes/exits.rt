@@ -7,7 +7,7 @@ ghost use Rattle.flow_graph.specs.range_sizes.Exits.{AllGoWithin, goes_within, p
 use cob_tree::Range;
 use statement_lowering::continuations::{Continuation, Successors};
 
-/// How a range goes on behind what a rest stands in: past the ends of its paragraph and section, or
+/// How a range goes on from a rest's paragraph: past the ends of the paragraph and its section, or
 /// it returns at that of the paragraph, or of the section alone.
 #[derive(Clone, Copy)]
 pub enum Passing {
@@ -26,6 +26,7 @@ fn returns_at(exit: Option<u32>, number: u32) -> bool
     }
 }
 
+/// How this range goes on from a rest's paragraph.
 pub fn passing_of(range: Range, onward: &Successors) -> Passing
     ensures { result ≡ passing_of range.exit onward.now }
 {
@@ -38,7 +39,7 @@ pub fn passing_of(range: Range, onward: &Successors) -> Passing
     Passing::Falls
 }
 
-/// Whether the rest at a place stands in the same paragraph, and section.
+/// Whether the rest at the next place is in the same paragraph and section.
 fn goes_within(spots: &[Continuation<'_>], onward: &Successors, next: u32) -> bool
     ensures { result ≡ goes_within spots.now onward.now next }
 {
@@ -50,8 +51,8 @@ fn goes_within(spots: &[Continuation<'_>], onward: &Successors, next: u32) -> bo
     }
 }
 
-/// Whether the tree at each rest goes on in its paragraph alone. So it does in the table of a
-/// program, which doesn't say it: it is looked at once, in place of a proof.
+/// Whether the tree at each rest goes on in its paragraph alone. In the table of a program it does,
+/// but the table's contract doesn't say so: it is tested once, in place of a proof.
 pub fn all_go_within(spots: &[Continuation<'_>]) -> bool
     ensures { result ≡ true → AllGoWithin spots.now }
 {

@@ -1,4 +1,4 @@
-//! What is counted of a tree.
+//! The counts of a tree.
 
 ghost use Rattle.std.specs.Prelude.{◌≡◌, length, OnOk};
 ghost use Rattle.flow_graph.specs.Jumps.{AddsThose};
@@ -7,13 +7,13 @@ ghost use Rattle.pending_returns.specs.levels.Reach.{AllPlaces, Holds, IsMarked}
 use cob_base::NoMemory;
 use pending_returns::levels::Reach;
 
-/// The labels to which a tree jumps. The trees that run on to one end share them.
+/// The labels to which a tree jumps. The trees that go on to the same end share them.
 #[derive(Drop)]
 pub struct Jumps {
     pub labels: Vec<u32>,
 }
 
-/// What is counted of a tree: its statements, and the number under which its jumps are kept.
+/// The counts of a tree: its statements, and the number under which its jumps are kept.
 #[derive(Clone, Copy)]
 pub struct TreeCount {
     pub size: u64,

@@ -1,4 +1,4 @@
-//! Trees that run on as others, and so are counted by them.
+//! Trees that go on as others, and so are counted by them.
 
 ghost use Rattle.std.specs.Prelude.{◌≡◌, ◌*◌, [], length, true, IfOk};
 ghost use Rattle.control_flow_theory.specs.lowering.Lower.{point};
@@ -19,15 +19,15 @@ use statement_lowering::LoweringContext;
 use statement_lowering::continuations::Continuation;
 use std::alloc::Global;
 
-/// The tree before a place up to where it runs on as another: its statements till there.
+/// The tree before a place, up to where it goes on as another, by its statements up to there.
 #[derive(Clone, Copy)]
 pub struct Segment {
     pub place: u32,
     pub size: u64,
 }
 
-/// Goes along the places as which the tree before a place runs on, up to one whose part is known or
-/// whose tree ends by itself, and answers that part. What it passed are the stretches.
+/// Follows the places as which the tree before a place goes on, up to one whose count is known or
+/// whose tree ends by itself, and answers that count. What it passed are the stretches.
 fn part_behind(
     alloc: Global,
     known: &mut TreeSizeCache,
@@ -76,8 +76,8 @@ fn part_behind(
     Ok(TreeCount { size: 0, jumps: 0 })
 }
 
-/// The part of the tree at the point before a place: what it has of its own, and what the trees have
-/// as which it runs on. Those are counted once for all that run on as them.
+/// The count of the tree at the point before a place: its own, and that of the trees as which it
+/// goes on. Those are counted once for all trees that go on as them.
 pub fn point_part(
     alloc: Global,
     known: &mut TreeSizeCache,

@@ -57,8 +57,8 @@ fn size_from(
     Ok(count)
 }
 
-/// How large the graph of a range is: its labels and statements; past the last number of the type
-/// that number. One `reach` and one `known` serve all ranges of a program.
+/// How large the graph of a range is: its labels and statements, at most the largest `u64`. One
+/// `reach` and one `known` serve all ranges of a program.
 pub fn range_size(
     alloc: Global,
     reach: &mut Reach,

@@ -1,4 +1,4 @@
-//! Counting the tree at a label, and going on to the labels to which it jumps.
+//! Counts the tree at a label, and goes on to the labels to which it jumps.
 
 ghost use Rattle.std.specs.Prelude.{◌≡◌, ◌*◌, ◌<◌, ◌/◌, length, true, IfOk};
 ghost use Rattle.flow_graph.specs.Counts.{IsSizeAt};
@@ -22,7 +22,7 @@ use statement_lowering::LoweringContext;
 use statement_lowering::continuations::Continuation;
 use std::alloc::Global;
 
-/// The part of the tree at a label of a loop, which runs on as no other.
+/// The count of the tree at a label of a loop, which goes on as no other.
 fn turn_part(
     alloc: Global,
     known: &mut TreeSizeCache,
@@ -53,7 +53,7 @@ fn turn_part(
     Ok(part)
 }
 
-/// The part of the tree at a label.
+/// The count of the tree at a label.
 fn part_at(
     alloc: Global,
     known: &mut TreeSizeCache,
@@ -80,8 +80,8 @@ fn part_at(
     Ok(part)
 }
 
-/// The same as `visit_label`, and nothing is kept: for a table of which it isn't known that a tree
-/// goes on in its paragraph alone. There is none of a program.
+/// The same as `visit_label`, but nothing is kept: for a table of which it isn't known that a tree
+/// goes on in its paragraph alone. No program has such a table.
 fn visit_alone(
     alloc: Global,
     reach: &mut Reach,

@@ -13,12 +13,13 @@ Each P (x ∷ xs) = P x × Each P xs
 abbrev pub AreOf : (TokenKind → Type 0) → List Token → Type 0
 AreOf Kind tokens = Each (λ token. Kind token.kind) tokens
 
--- Where the tokens are of these kinds and no fault is noted up to behind the value, none was noted
--- before it, and it has the property.
+-- Where the tokens are of these kinds and no fault is noted up to the end of the value, none was
+-- noted before it, and it has the property.
 pub record Gives (Kind : TokenKind → Type 0) {A : Type 0} (form : Form A) (Has : A → Type 0) : Type
     0 where
   -- what is left is of these kinds, whatever is noted
   pub keeps : (p : Input) (a : A) (q : Input) →
       form.reads p ≡ Got a q → AreOf Kind p.rest → AreOf Kind q.rest
+  -- so it is of each reading
   pub gives : (p : Input) (a : A) (q : Input) →
       form.reads p ≡ Got a q → AreOf Kind p.rest → q.fault ≡ None → (p.fault ≡ None) × Has a

@@ -16,12 +16,13 @@ IsNumbered (kinds.Digits digits) = are_digits digits ≡ true
 IsNumbered (kinds.Decimal number) = number_named number ≡ true
 IsNumbered _ = Unit {0}
 
--- a literal or figurative constant, whose number is a number
+-- one level of an operand is a literal or a figurative constant, whose number is a number
 abbrev pub literal_step : Operand-F Expr Operand Place Sub Window → Bool
 literal_step (Operand-F.Place place) = false
 literal_step (Operand-F.Number number) = number_named number
 literal_step (Operand-F.Text text) = true
 literal_step (Operand-F.Figure figure) = true
 
+-- the operand is a literal or a figurative constant, whose number is a number
 abbrev pub is_literal : Operand → Bool
 is_literal operand = literal_step (out-Operand operand)

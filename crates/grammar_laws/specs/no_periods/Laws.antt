@@ -8,6 +8,7 @@ use Rattle.cobol_grammar.specs.stmt_forms.Stmt.{stmts}
 use Rattle.cobol_grammar.specs.Whole.{parts_of}
 use Rattle.grammar_laws.specs.no_periods.Plain.{Plain}
 
+-- the form of statements takes no period
 abbrev pub StatementsTakeNoPeriod : Type 0
 StatementsTakeNoPeriod =
     (names : Names) (entries : List Entry) (table : ProcedureTable) (levels : ℕ) (scope : Scope) →

@@ -1,4 +1,4 @@
-//! EXIT without a further word stands alone in the sentences that are read, over open forms of
+//! EXIT without a further word is alone in the sentences that are read, over open forms of
 //! operands. Nothing here runs.
 
 ghost use Rattle.std.specs.Prelude.{ℕ, ◌≡◌, true};
@@ -9,7 +9,7 @@ ghost use Rattle.cobol_grammar.specs.stmt_forms.Paragraph.{division};
 
 use cobol_grammar::stmt_forms::Made;
 
-/// In a division that is read EXIT without a further word stands alone in its sentences.
+/// In a division that is read EXIT without a further word is alone in its sentences.
 pub fn exits_stand_alone<Side, Known, M: Made<Side, Known>>()
     ensures { (bound : ℕ) → PartsAreLawful M.parts →
         GivesOfFew bound (division M.parts) (λ found. paragraphs_exit_alone found ≡ true) }

@@ -1,10 +1,10 @@
 //! What divisions declare where no rule on files and entries is broken: each entry has a level, the
-//! first is no level 88, values are literals, and status items are named. Nothing here runs.
+//! first isn't a level 88, values are literals, and status items are named. Nothing here runs.
 
 ghost use Rattle.grammar_laws.specs.well_scoped.named_entries.Laws.{EntriesAreNamed};
 
 /// Where the drafts' status items are named and their values are literals, and no rule is broken,
-/// so it is with what they declare.
+/// the same holds of what they declare.
 pub fn entries_are_named()
     ensures { EntriesAreNamed }
 {}

@@ -1,5 +1,5 @@
 //! What references, operands, expressions and conditions give: where no fault of a name is noted,
-//! each item that they name is there, and their numbers are numbers.
+//! each item that they name is there, and their numbers are valid.
 //!
 //! Nothing here runs.
 

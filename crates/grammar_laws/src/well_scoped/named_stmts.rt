@@ -2,7 +2,7 @@
 //! and conditions: where no fault of a name is noted, each item, file and paragraph that they name
 //! is there, and no list that is required is empty.
 //!
-//! `specs/well_scoped/named_stmts/Parts.antt` says what the open forms are to give. Nothing here
+//! `specs/well_scoped/named_stmts/Parts.antt` says what the open forms have to give. Nothing here
 //! runs.
 
 ghost use Rattle.std.specs.Prelude.{◌≡◌, true};
@@ -16,7 +16,7 @@ ghost use Rattle.cobol_grammar.specs.stmt_forms.Paragraph.{division};
 
 use cobol_grammar::stmt_forms::Made;
 
-/// Where the parts of statements give what they are to, and no fault is noted, the division has a
+/// Where the parts of statements give what they have to, and no fault is noted, the division has a
 /// paragraph, and its statements are named.
 pub fn statements_give<Side, Known, M: Made<Side, Known>>()
     ensures { (counts : Counts) → PartsAreLawful M.parts → PartsGive counts M.parts →

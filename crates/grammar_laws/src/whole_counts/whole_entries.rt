@@ -1,5 +1,5 @@
-//! Entries that are whole numbers, and their names: what a name says of its item, as whether it is
-//! a number without decimal places, holds of the entry for which it stands.
+//! Entries that are whole numbers, and their names: what a name says about its item, such as
+//! whether it is a number without decimal places, holds of the entry for which it stands.
 //!
 //! Nothing here runs.
 

@@ -1,7 +1,7 @@
 //! Statements count by whole numbers, over open forms of operands: where no fault of a name is
 //! noted, the operand of each TIMES and the item of each GO TO DEPENDING are whole numbers.
 //!
-//! `specs/whole_counts/whole_stmts/Parts.antt` says what the open forms are to give. Nothing here
+//! `specs/whole_counts/whole_stmts/Parts.antt` says what the open forms have to give. Nothing here
 //! runs.
 
 ghost use Rattle.std.specs.Prelude.{◌≡◌, true, List};

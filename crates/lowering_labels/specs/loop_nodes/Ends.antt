@@ -27,7 +27,7 @@ abbrev pub AddsJumps : PlaceTable → List ℕ → List code.Tree → List code.
 AddsJumps layout to old new =
     map seen_tree new ≡ map seen_tree old ++ map (jump_to layout.places.items layout.end) to
 
--- the arms of a GO TO DEPENDING of these names, whatever lowering is told
+-- the arms of a GO TO DEPENDING of these names, whatever lowering knows
 abbrev pub IsDepending : PlaceTable → List ℕ → JumpTarget → List code.Tree → Type 0
 IsDepending layout to after arms =
     (files : List FileEntry) (returning : List (List ℕ)) (place_of : ℕ → ℕ) →

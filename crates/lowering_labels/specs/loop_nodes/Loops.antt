@@ -10,7 +10,7 @@ abbrev pub back_by : Option Control → ℕ → Label
 back_by None place = loop_head_label place
 back_by (Some control) place = loop_back_label control place
 
--- what stands before its head
+-- what comes before its head
 abbrev pub start_by : Option Control → ℕ → Stmts
 start_by None place = none
 start_by (Some control) place = body_of (loop_start control place)

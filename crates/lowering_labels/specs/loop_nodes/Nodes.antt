@@ -22,7 +22,7 @@ IsTree t made = seen_tree made ≡ t
 abbrev pub AreBoth : Tree → Tree → List code.Tree → Type 0
 AreBoth holds fails arms = seen_trees arms ≡ more holds (more fails no_more)
 
--- these statements behind a body
+-- these statements after a body
 abbrev pub Adds : Stmts → List Piece → List Piece → Type 0
 Adds stmts old new = seen_body new ≡ followed (seen_body old) stmts
 
@@ -30,9 +30,10 @@ Adds stmts old new = seen_body new ≡ followed (seen_body old) stmts
 abbrev pub left_or : Cond → JumpTarget → Tree → Tree
 left_or cond after other = by_test (test_of cond) (end_alone (seen_target after)) other
 
--- the trees at the labels of a loop
+-- the tree at the third label of a loop
 abbrev pub third_of : Control → ℕ → JumpTarget → Tree
 third_of control place after = third_by (control_in control) place (seen_target after)
 
+-- the tree at the head of a loop: its test, or one more turn
 abbrev pub head_of : Control → ℕ → Tree → JumpTarget → Tree
 head_of control place turn after = chosen_by (control_in control) place turn (seen_target after)

@@ -1,4 +1,4 @@
--- Where a range goes on behind a paragraph.
+-- Where a range goes on after a paragraph.
 use Rattle.std.specs.Prelude.{ℕ, ◌≡◌, ◌+◌, slice_get, List, Option, Some, None}
 use Rattle.cob_tree.specs.declared.program.Program.{Program}
 use Rattle.cob_tree.specs.declared.program.Range as code
@@ -10,19 +10,21 @@ use Rattle.lowering_labels.specs.points.JumpTarget.{seen_target, point_of}
 use Rattle.lowering_labels.specs.declared.points.jump_target.JumpTarget.TheVariants as leaf
 use Rattle.lowering_labels.specs.declared.points.jump_target.JumpTarget.{JumpTarget}
 
--- a range without an exit is that of main
+-- the range from an entry to an exit; without an exit it is main
 abbrev pub range_by : ℕ → Option ℕ → Range
 range_by entry None = Main
 range_by entry (Some exit) = Part entry exit
 
+-- a range as the theory has it
 abbrev pub seen_range : code.Range → Range
 seen_range range = range_by range.entry range.exit
 
+-- before this place, or the run stops where there is none
 abbrev pub fallen_to : Option ℕ → JumpTarget
 fallen_to None = leaf.Stop
 fallen_to (Some place) = leaf.Jump (point_of place)
 
--- behind a paragraph that isn't the exit: before the next one, or there is none
+-- after a paragraph that isn't the exit: before the next one, or there is none
 abbrev pub fallen : List ℕ → ℕ → JumpTarget
 fallen places number = fallen_to (slice_get places (number + 1))
 

@@ -1,4 +1,4 @@
--- Where a rest goes on, in whatever section it stands.
+-- Where a rest goes on, in whatever section it is.
 use Rattle.std.specs.Prelude.{ℕ, ◌≡◌, if◌then◌else◌, List}
 use Rattle.cob_tree.specs.declared.file.FileEntry.{FileEntry}
 use Rattle.cob_tree.specs.declared.stmt.Stmt.{Stmt}
@@ -32,13 +32,13 @@ going_by told (language.Go to) = going.To to
 going_by told language.StopRun = going.Stops
 going_by told _ = going.Here
 
--- whatever lowering is told, and in whatever section
+-- whatever lowering knows, and in whatever section
 abbrev pub IsGoing : Stmt → Going → Type 0
 IsGoing stmt way =
     (files : List FileEntry) (returning : List (List ℕ)) (last : ℕ) →
     way ≡ going_by (flow_facts_of files returning) (seen last stmt)
 
--- the continuation of a rest by the places of paragraphs, whatever lowering is told and in whatever
+-- the continuation of a rest by the places of paragraphs, whatever lowering knows and in whatever
 -- section
 abbrev pub IsJumpTarget : (places : List ℕ) (end : ℕ) → List Stmt → ℕ → JumpTarget → JumpTarget →
     Type 0

@@ -1,4 +1,4 @@
-//! Ends without a choice, and with the choice of a GO TO DEPENDING.
+//! Ends without a choice, and the choice of a GO TO DEPENDING.
 
 ghost use Rattle.std.specs.Prelude.{◌≡◌, ◌∷◌, [], ◌++◌, length, map, IfOk, OnOk};
 ghost use Rattle.control_flow_theory.specs.language.Language.{By, Depending};
@@ -15,6 +15,7 @@ use cob_tree::Place;
 use std::alloc::Global;
 use std::collections::VecDeque;
 
+/// A jump target as the end of a tree.
 pub fn end_at(leaf: JumpTarget) -> End
     ensures { seen_end result ≡ seen_target leaf }
 {
@@ -90,7 +91,7 @@ fn pick_depending(alloc: Global, on: &Place, names: u32, arms: Items<Tree>) -> R
     }
 }
 
-/// The end at a GO TO DEPENDING. More names than the type numbers are too many for memory.
+/// The end at a GO TO DEPENDING. More names than 32 bits number are out of memory.
 pub fn depending(
     alloc: Global,
     to: &[u32],

@@ -1,4 +1,4 @@
-//! Laws of what stands at the labels of a loop.
+//! Laws of the trees at the labels of a loop.
 
 ghost use Rattle.lowering_labels.specs.loop_nodes.Loops.{LoopsHaveTheseNodes};
 

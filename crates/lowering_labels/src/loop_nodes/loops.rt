@@ -1,4 +1,4 @@
-//! What stands before a loop with an escape, and at its labels.
+//! The trees before a loop with an escape, and at its labels.
 
 ghost use Rattle.std.specs.Prelude.{◌≡◌, IfOk, OnOk, IsTrue};
 ghost use Rattle.control_flow_theory.specs.language.Control.{control_in, augmented, setting_item};
@@ -17,12 +17,14 @@ use cob_base::{Copied, Items, NoMemory};
 use cob_tree::{Arms, Calc, Control, Operand, Place, Stmt, Target};
 use std::alloc::Global;
 
+/// The label of the head of a loop at a place.
 pub fn loop_head_label(place: u32) -> Label
     ensures { result ≡ loop_head_label place }
 {
     Label { place, part: 1 }
 }
 
+/// The label of the test or step of a loop at a place.
 pub fn loop_step_label(place: u32) -> Label
     ensures { result ≡ loop_step_label place }
 {
@@ -47,7 +49,7 @@ pub fn loop_back_label(control: &Control, place: u32) -> Label
     }
 }
 
-/// MOVE to the item of VARYING.
+/// Adds the MOVE to the item of VARYING.
 fn push_setting(
     alloc: Global,
     body: &mut Vec<Piece>,
@@ -91,7 +93,7 @@ pub fn start_loop(
     }
 }
 
-/// ADD to the item of VARYING.
+/// The ADD to the item of VARYING.
 pub fn augmenting(alloc: Global, item: &Place, by: &Operand) -> Result<Piece, NoMemory>
     ensures { IfOk result (λ piece. seen_piece piece ≡ Do (augmented item.now by.now)) }
 {

@@ -1,4 +1,4 @@
-//! Where a range goes on behind a paragraph.
+//! Where a range goes on after a paragraph.
 
 ghost use Rattle.std.specs.Prelude.{◌≡◌, ◌+◌, ◌<◌, ◌^◌, drop, length};
 ghost use Rattle.control_flow_theory.specs.language.Control.{section_last};
@@ -8,7 +8,8 @@ use crate::points::jump_target::{JumpTarget, point};
 use crate::points::layout::PlaceTable;
 use cob_tree::{Paragraph, Range};
 
-/// Behind a paragraph that isn't the exit: before the next one; where there is none the run stops.
+/// The target after a paragraph that isn't the exit: the next one; where there is none, the run
+/// stops.
 fn fall_leaf(layout: &PlaceTable, number: u32) -> JumpTarget
     ensures { result ≡ fallen layout.now.places.items number }
 {
@@ -18,7 +19,7 @@ fn fall_leaf(layout: &PlaceTable, number: u32) -> JumpTarget
     }
 }
 
-/// Where a range goes on behind a paragraph.
+/// Where a range goes on after a paragraph.
 pub fn paragraph_end_target(layout: &PlaceTable, range: Range, number: u32) -> JumpTarget
     ensures { IsEnd layout.now.places.items layout.now.end range number result }
 {
@@ -33,7 +34,7 @@ pub fn paragraph_end_target(layout: &PlaceTable, range: Range, number: u32) -> J
     }
 }
 
-/// The last paragraph of the section of the paragraph with this number, by those behind it.
+/// The last paragraph of the section of the paragraph with this number, by those after it.
 pub fn section_last(number: u32, behind: &[Paragraph]) -> u32
     requires { number + length behind.now < 2 ^ 32 }
     ensures { result ≡ section_last number behind.now }

@@ -23,7 +23,7 @@ pub fn point(place: u32) -> Label
     Label { place, part: 0 }
 }
 
-/// How control comes by the head of a rest, as far as its continuation goes.
+/// Where control goes at the head of a rest, as far as the rest's continuation needs it.
 #[derive(Clone, Copy)]
 pub enum Going {
     /// The statement does nothing.
@@ -65,8 +65,8 @@ fn way_of(stmt: &Stmt) -> Going
     }
 }
 
-/// Where a rest goes on that begins with these statements, from a place on, with that continuation
-/// behind them.
+/// Where a rest that begins with these statements, from a place on, goes on, with that continuation
+/// after them.
 pub fn jump_target_of(
     stmts: &[Stmt],
     place: u32,

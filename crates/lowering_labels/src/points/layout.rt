@@ -9,7 +9,7 @@ use cob_base::NoMemory;
 use cob_tree::Program;
 use std::alloc::Global;
 
-/// The place of each paragraph, and the number behind the last place.
+/// The place of each paragraph, and the number after the last place.
 #[derive(Drop)]
 pub struct PlaceTable {
     pub places: Vec<u32>,
@@ -17,7 +17,7 @@ pub struct PlaceTable {
 }
 
 impl PlaceTable {
-    /// The place of a paragraph; behind the last one the number behind the last place.
+    /// The place of a paragraph; past the last one the number after the last place.
     pub fn place_of(&self, number: u32) -> u32
         ensures { result ≡ place_at self.now.places.items self.now.end number }
     {
@@ -28,8 +28,8 @@ impl PlaceTable {
     }
 }
 
-/// Numbers places: each paragraph, and behind it its statements in text order, nested ones behind
-/// their holder.
+/// Numbers places: each paragraph, and after it its statements in text order, nested ones after the
+/// statement that holds them.
 pub fn layout_of(alloc: Global, program: &Program) -> Result<PlaceTable, NoMemory>
     requires { program_places program.now < 2 ^ 31 }
     ensures { IfOk result (λ made. IsLayout program.now made.places.items made.end) }

@@ -6,6 +6,7 @@ ghost use Rattle.lowering_labels.specs.points.Layout.{paragraph_size};
 
 use cob_tree::{Arms, Paragraph, Stmt, When};
 
+/// The places of a statement, nested ones included; at most the largest `u64`.
 #[cycle(size)]
 pub fn stmt_size(stmt: &Stmt) -> u64
     ensures { result ≡ min (stmt_places stmt.now) (2 ^ 64 - 1) }
@@ -42,7 +43,7 @@ fn arms_size(arms: &Arms) -> u64
     }
 }
 
-/// The places of statements, nested ones included; past the last number of the type that number.
+/// The places of statements, nested ones included; at most the largest `u64`.
 #[cycle(size)]
 pub fn stmts_size(stmts: &[Stmt]) -> u64
     ensures { result ≡ min (sum_by stmt_places stmts.now) (2 ^ 64 - 1) }
@@ -65,7 +66,7 @@ fn whens_size(whens: &[When]) -> u64
     count
 }
 
-/// The places of a paragraph's statements.
+/// The places of a paragraph's statements; at most the largest `u64`.
 pub fn paragraph_size(paragraph: &Paragraph) -> u64
     ensures { result ≡ min (paragraph_size paragraph.now) (2 ^ 64 - 1) }
 {

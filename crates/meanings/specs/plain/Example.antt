@@ -13,6 +13,7 @@ use Rattle.meanings.specs.plain.Structural.{structural}
 abbrev pub display : ℕ → Stmt
 display byte = Display (Text (byte ∷ []) ∷ []) true
 
+-- the DISPLAY of one byte as it is seen, with its line feed
 abbrev pub event : ℕ → Event
 event byte = outside.Display (byte ∷ 10 ∷ [])
 
@@ -23,12 +24,15 @@ jumping = record {
       ((display 51 ∷ []) ∷ (StopRun ∷ []) ∷ []) ∷ [];
 }
 
+-- the same without the jump
 abbrev pub nested : Program
 nested = record { paragraphs = ((display 49 ∷ display 51 ∷ StopRun ∷ []) ∷ []) ∷ [] }
 
+-- what both show
 abbrev pub shown : List Event
 shown = event 49 ∷ event 51 ∷ []
 
+-- both show the same and stop, the first after six steps, the second within three units
 abbrev pub RunsAs : Type 0
 RunsAs = (world : World) →
     (meaning (source_machine jumping) world 5 ≡ record { trace = shown; standing = Going })
@@ -38,5 +42,6 @@ RunsAs = (world : World) →
     × (structural nested world 3 ≡ record
     { trace = shown; standing = Over (Stopped Normally world.files) })
 
+-- and so they do
 pub runs_as : RunsAs
 runs_as world = (refl, refl, refl, refl)

@@ -18,12 +18,15 @@ pub data Stmt : Type 0 where
   StopRun : Stmt
   Other : Stmt
 
+-- a sentence is its statements
 abbrev pub Sentence : Type 0
 Sentence = List Stmt
 
+-- a paragraph is its sentences
 abbrev pub Paragraph : Type 0
 Paragraph = List Sentence
 
+-- a program is its paragraphs
 pub record Program : Type 0 where
   pub paragraphs : List Paragraph
 
@@ -42,6 +45,7 @@ abbrev pub items_of : Paragraph → List Item
 items_of [] = []
 items_of (sentence ∷ sentences) = before sentence (SentenceEnd ∷ items_of sentences)
 
+-- the paragraph, or one with nothing to do where it is absent
 abbrev pub unless_absent : Option Paragraph → Paragraph
 unless_absent None = []
 unless_absent (Some paragraph) = paragraph
@@ -52,13 +56,14 @@ paragraph_at program number = unless_absent (slice_get program.paragraphs number
 
 -- The tree as the meanings see it.
 
--- a PERFORM that isn't a loop
+-- a PERFORM of a range; one that is a loop is not of the plain form
 abbrev pub performing : ℕ → ℕ → Control → Stmt
 performing entry exit Once = Perform entry exit
 performing entry exit (Times amount) = Other
 performing entry exit (Until after until) = Other
 performing entry exit (Varying after item from by until) = Other
 
+-- a statement of the tree
 abbrev pub seen_stmt : tree_stmt.Stmt → Stmt
 seen_stmt (tree_stmts.Display items advance) = Display items advance
 seen_stmt (tree_stmts.Go to) = Go to
@@ -66,11 +71,14 @@ seen_stmt (tree_stmts.Perform entry exit control) = performing entry exit contro
 seen_stmt tree_stmts.StopRun = StopRun
 seen_stmt _ = Other
 
+-- a sentence of the tree
 abbrev pub seen_sentence : tree_sentence.Sentence → Sentence
 seen_sentence sentence = map seen_stmt sentence.stmts
 
+-- a paragraph of the tree
 abbrev pub seen_paragraph : tree_paragraph.Paragraph → Paragraph
 seen_paragraph paragraph = map seen_sentence paragraph.sentences
 
+-- a program of the tree
 abbrev pub seen : tree_program.Program → Program
 seen program = record { paragraphs = map seen_paragraph program.paragraphs }

@@ -1,4 +1,4 @@
--- A plain state as one of the source meaning, and when a later one is a step behind it.
+-- A plain state as one of the source meaning, and when a later one is a step after it.
 use Rattle.std.specs.Prelude.{ℕ, ◌≡◌, List, [], map, Option, Some, None}
 use Rattle.std.specs.List.{flat_map}
 use Rattle.control_flow_theory.specs.runs.Run.{Going}
@@ -15,10 +15,12 @@ use Rattle.meanings.specs.plain.Language as language
 use Rattle.meanings.specs.plain.World.{World, Event, Display, Normally, Stopped, Faulted, Standing, Trace}
 use Rattle.meanings.specs.plain.Source.{Pending, SourceState, source_step, source_begun}
 
+-- what is still to do, as the meaning has it
 abbrev pub item_seen : Item → language.Item
 item_seen (Stmt stmt) = Do (seen_stmt stmt)
 item_seen SentenceEnd = language.SentenceEnd
 
+-- a return that is pending, as the meaning has it
 abbrev pub waiting_seen : Waiting → Pending
 waiting_seen waiting = record {
   end = waiting.end;
@@ -32,7 +34,7 @@ standing_in world None = Going
 standing_in world (Some over.Stopped) = runs.Over (Stopped Normally world.files)
 standing_in world (Some (over.Fault fault)) = runs.Over (Faulted fault)
 
--- in this world, having shown these events
+-- the source's state in this world, having shown these events
 abbrev pub state_in : World → Trace → PlainState → SourceState
 state_in world trace state = record {
   paragraph = state.paragraph;
@@ -42,6 +44,7 @@ state_in world trace state = record {
   run = record { trace = trace; standing = standing_in world state.over };
 }
 
+-- the bytes that an event showed
 abbrev pub event_bytes : Event → List ℕ
 event_bytes (Display bytes) = bytes
 

@@ -16,7 +16,7 @@ pub record Pending : Type 0 where
   pub paragraph : ℕ
   pub rest : List Item
 
--- the pending return that was made last stands first
+-- the pending return that was made last comes first
 pub record SourceState : Type 0 where
   pub paragraph : ℕ
   pub rest : List Item
@@ -28,10 +28,12 @@ pub record SourceState : Type 0 where
 abbrev pub rest_of : Program → ℕ → List Item
 rest_of program number = items_of (paragraph_at program number)
 
+-- a return is pending at the end of the paragraph with this number
 abbrev pub ends_at : ℕ → List Pending → Bool
 ends_at number [] = false
 ends_at number (return ∷ returns) = if return.end == number then true else ends_at number returns
 
+-- the state after these bytes were shown
 abbrev pub shows : List ℕ → SourceState → SourceState
 shows bytes state = record state {
   run = record {
@@ -40,13 +42,16 @@ shows bytes state = record state {
   };
 }
 
+-- the state in which the run came to this ending
 abbrev pub comes_to : Ending → SourceState → SourceState
 comes_to ending state = record state
     { run = record { trace = state.run.trace; standing = Over ending } }
 
+-- the state in which the run stopped so
 abbrev pub stops : Stopping → SourceState → SourceState
 stops how state = comes_to (Stopped how state.world.files) state
 
+-- at the beginning of the paragraph with this number
 abbrev pub goes_to : Program → ℕ → SourceState → SourceState
 goes_to program number state = record state { paragraph = number; rest = rest_of program number }
 
@@ -74,8 +79,8 @@ abbrev pub falls : Program → SourceState → Option Paragraph → SourceState
 falls program state None = stops Normally state
 falls program state (Some next) = goes_to program (suc state.paragraph) state
 
--- the end of a paragraph: the return that was made last is taken where it ends here; where another
--- one does, that is a fault
+-- the step at the end of a paragraph: the return that was made last is taken where it ends here;
+-- where another one does, that is a fault
 abbrev pub end_step : Program → SourceState → List Pending → SourceState
 end_step program state [] = falls program state (slice_get program.paragraphs (suc state.paragraph))
 end_step program state (top ∷ others) =
@@ -84,20 +89,22 @@ end_step program state (top ∷ others) =
     else (if ends_at state.paragraph others then comes_to (Faulted (Overlap state.paragraph)) state
     else falls program state (slice_get program.paragraphs (suc state.paragraph)))
 
+-- the step at this rest of a paragraph
 abbrev pub rest_step : Program → SourceState → List Item → SourceState
 rest_step program state [] = end_step program state state.pending
 rest_step program state (Do stmt ∷ rest) = stmt_step program state rest stmt
 rest_step program state (SentenceEnd ∷ rest) = record state { rest = rest }
 
--- a run that is over stays
+-- the next step, where the run so stands; a run that is over stays
 abbrev pub step_by : Program → SourceState → Standing → SourceState
 step_by program state Going = rest_step program state state.rest
 step_by program state (Over ending) = state
 
+-- one step of a source program
 abbrev pub source_step : Program → SourceState → SourceState
 source_step program state = step_by program state state.run.standing
 
--- at the first paragraph
+-- the state before the first step, at the first paragraph
 abbrev pub source_begun : Program → World → SourceState
 source_begun program world = record {
   paragraph = 0;
@@ -107,6 +114,7 @@ source_begun program world = record {
   run = record { trace = []; standing = Going };
 }
 
+-- a source program as a machine
 abbrev pub source_machine : Program → Machine World Event Ending SourceState
 source_machine program = record {
   step = source_step program;

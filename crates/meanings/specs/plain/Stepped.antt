@@ -31,31 +31,39 @@ next_of [] = Ends
 next_of (Stmt stmt ∷ rest) = next_stmt (seen_stmt stmt)
 next_of (SentenceEnd ∷ rest) = Drops
 
+-- a sentence's statements, and its end
 abbrev pub sentence_items : Sentence → List Item
 sentence_items sentence = map Stmt sentence.stmts ++ SentenceEnd ∷ []
 
+-- all that is to do in a paragraph; nothing where it is absent
 abbrev pub items_in : Option Paragraph → List Item
 items_in None = []
 items_in (Some paragraph) = flat_map sentence_items paragraph.sentences
 
+-- all that is to do in the paragraph with this number
 abbrev pub whole_rest : Program → ℕ → List Item
 whole_rest program number = items_in (slice_get program.paragraphs number)
 
+-- a return is pending at the end of the paragraph with this number
 abbrev pub is_pending : ℕ → List Waiting → Bool
 is_pending number [] = false
 is_pending number (waiting ∷ others) =
     if waiting.end == number then true else is_pending number others
 
+-- the state past the head of its rest
 abbrev pub done : PlainState → PlainState
 done state = record state { rest = drop 1 state.rest }
 
+-- the state that is over so
 abbrev pub over_by : Over → PlainState → PlainState
 over_by over state = record state { over = Some over }
 
+-- at the beginning of the paragraph with this number
 abbrev pub gone : Program → ℕ → PlainState → PlainState
 gone program number state =
     record state { paragraph = number; rest = whole_rest program number }
 
+-- at this rest of the entry, with the return to what follows the PERFORM pending
 abbrev pub entered : ℕ → ℕ → List Item → List Waiting → PlainState → PlainState
 entered entry exit rest others state = record state {
   paragraph = entry;
@@ -64,16 +72,18 @@ entered entry exit rest others state = record state {
       record { end = exit; paragraph = state.paragraph; rest = drop 1 state.rest } ∷ others;
 }
 
+-- in the range; to perform one whose exit is pending already is a fault
 abbrev pub performed : Program → ℕ → ℕ → PlainState → PlainState
 performed program entry exit state =
     if is_pending exit state.pending then over_by (Fault (Reentry exit)) state
     else entered entry exit (whole_rest program entry) state.pending state
 
--- by the next paragraph
+-- the state in the next paragraph, or at the end of the run where there is none
 abbrev pub fallen_to : Program → PlainState → Option Paragraph → PlainState
 fallen_to program state None = over_by Stopped state
 fallen_to program state (Some next) = gone program (state.paragraph + 1) state
 
+-- on to the next paragraph
 abbrev pub fallen : Program → PlainState → PlainState
 fallen program state =
     fallen_to program state (slice_get program.paragraphs (state.paragraph + 1))
@@ -87,7 +97,7 @@ returned state top =
       pending = drop 1 state.pending;
     }
 
--- by the return that was made last
+-- the state after the end of a paragraph, by the return that was made last
 abbrev pub ended : Program → PlainState → Option Waiting → PlainState
 ended program state None = fallen program state
 ended program state (Some top) =
@@ -96,6 +106,7 @@ ended program state (Some top) =
     then over_by (Fault (Overlap state.paragraph)) state
     else fallen program state)
 
+-- the state after the head of its rest came to this
 abbrev pub comes_to : Program → PlainState → Next → PlainState
 comes_to program state Ends = ended program state (slice_get state.pending 0)
 comes_to program state Drops = done state

@@ -12,17 +12,19 @@ pub data Outcome : Type 0 where
   Went : (trace : Trace) → (world : World) → (left : ℕ) → Outcome
   Stands : (trace : Trace) → (standing : Standing) → Outcome
 
--- from a world and a number of units
+-- what something does, from a world and a number of units
 abbrev pub Does : Type 0
 Does = World → ℕ → Outcome
 
+-- nothing is done, and no unit is taken
 abbrev pub nothing : Does
 nothing world units = Went [] world units
 
--- a jump has no meaning here, and structured programs have none
+-- what a jump does: it has no meaning here, and structured programs have none
 abbrev pub meaningless : Does
 meaningless world units = Stands [] Going
 
+-- the same, after this was shown
 abbrev pub behind : Trace → Outcome → Outcome
 behind shown (Went trace world left) = Went (shown ++ trace) world left
 behind shown (Stands trace standing) = Stands (shown ++ trace) standing
@@ -46,7 +48,8 @@ unit_of does world (suc units) = does world units
 abbrev pub Performing : Type 0
 Performing = ℕ → Does
 
--- each statement that is begun takes one unit; one that isn't of the plain form does nothing yet
+-- what a statement does; each one that is begun takes one unit, and one that isn't of the plain
+-- form does nothing yet
 abbrev pub stmt_does : Performing → Stmt → Does
 stmt_does perform (Display items advance) =
     unit_of (λ world units. Went (outside.Display (displayed items advance) ∷ []) world units)
@@ -55,29 +58,33 @@ stmt_does perform (Perform entry exit) = unit_of (perform entry)
 stmt_does perform StopRun = unit_of (λ world units. Stands [] (Over (Stopped Normally world.files)))
 stmt_does perform Other = unit_of nothing
 
+-- the statements of a sentence are done one after the other
 abbrev pub sentence_does : Performing → Sentence → Does
 sentence_does perform sentence = all (map (stmt_does perform) sentence)
 
+-- the sentences of a paragraph are done one after the other
 abbrev pub paragraph_does : Performing → Paragraph → Does
 paragraph_does perform paragraph = all (map (sentence_does perform) paragraph)
 
--- a paragraph sees only those behind it; the first of these has this number
+-- what PERFORM of a paragraph does: it sees only those after it; the first of these has this number
 abbrev pub performing : ℕ → List Paragraph → Performing
 performing first [] number = meaningless
 performing first (paragraph ∷ others) number =
     if number == first then paragraph_does (performing (suc first) others) paragraph
     else performing (suc first) others number
 
+-- what the first paragraph does, in which the others are performed
 abbrev pub program_does : List Paragraph → Does
 program_does [] = nothing
 program_does (paragraph ∷ others) = paragraph_does (performing 1 others) paragraph
 
--- a program is its first paragraph, and stops behind it
+-- the run of a program: it stops after its first paragraph
 abbrev pub run_of : Outcome → Run
 run_of (Went trace world left) = record
     { trace = trace; standing = Over (Stopped Normally world.files) }
 run_of (Stands trace standing) = record { trace = trace; standing = standing }
 
+-- the nested meaning of a program, in a world and within a number of units
 abbrev pub structural : Program → World → ℕ → Run
 structural program world units = run_of (program_does program.paragraphs world units)
 

@@ -32,9 +32,11 @@ pub data Ending : Type 0 where
 abbrev pub Run : Type 0
 Run = runs.Run Event Ending
 
+-- a run is still going, or came to an ending
 abbrev pub Standing : Type 0
 Standing = runs.Standing Ending
 
+-- what a run showed, in order
 abbrev pub Trace : Type 0
 Trace = List Event
 
@@ -43,6 +45,6 @@ abbrev pub operand_bytes : Operand → List ℕ
 operand_bytes (Text bytes) = bytes
 operand_bytes _ = []
 
--- DISPLAY shows its operands one behind the other, and a line feed unless NO ADVANCING
+-- DISPLAY shows its operands one after the other, and a line feed unless NO ADVANCING
 abbrev pub displayed : List Operand → Bool → List ℕ
 displayed items advance = flat_map operand_bytes items ++ (if advance then 10 ∷ [] else [])

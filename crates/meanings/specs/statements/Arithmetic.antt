@@ -28,35 +28,41 @@ pub data Basis : Type 0 where
   Times : Value → Basis
   Over : Value → Basis
 
+-- this of two values, where there are both
 abbrev pub both : (Dec → Dec → Value) → Value → Value → Value
 both does (Some a) (Some b) = does a b
 both does _ _ = None
 
 -- ---- operands
 
--- the sum from the left; every operand is read
+-- the sum of this number and the operands, from the left; every operand is read
 abbrev pub sum_on : Memory → Value → List Operand → Answer Value
 sum_on memory sum [] = Ok sum
 sum_on memory sum (operand ∷ operands) =
     and_then (operand_value operand memory) (λ value.
     sum_on memory (both sum_of sum value) operands)
 
+-- the sum of these operands; none where there are none or one has no value
 abbrev pub summed : Memory → List Operand → Answer Value
 summed memory [] = Ok None
 summed memory (operand ∷ operands) =
     and_then (operand_value operand memory) (λ value. sum_on memory value operands)
 
+-- the basis that the sum of these operands is
 abbrev pub sum_read : Memory → List Operand → (Value → Basis) → Answer Basis
 sum_read memory operands basis = and_then (summed memory operands) (λ sum. Ok (basis sum))
 
+-- the basis that the value of one operand is
 abbrev pub one_read : Memory → Operand → (Value → Basis) → Answer Basis
 one_read memory operand basis = and_then (operand_value operand memory) (λ value. Ok (basis value))
 
+-- the basis that the values of two operands are
 abbrev pub two_read : Memory → Operand → Operand → (Value → Value → Basis) → Answer Basis
 two_read memory first second basis =
     and_then (operand_value first memory) (λ a. and_then (operand_value second memory) (λ b.
     Ok (basis a b)))
 
+-- what arithmetic works out before the receivers
 abbrev pub basis_of : Memory → Calc → Answer Basis
 basis_of memory (calcs.Add operands) = sum_read memory operands Plus
 basis_of memory (calcs.AddGiving operands) = sum_read memory operands Given
@@ -86,8 +92,8 @@ value_for part now (Less value) = and_then now (λ old. Ok (both difference_of o
 value_for part now (Times value) = and_then now (λ old. Ok (both product_of old value))
 value_for part now (Over value) = and_then now (λ old. Ok (both (divided part) old value))
 
--- a receiver without a value, or with a size error under a SIZE phrase, stays; the answer says
--- whether it had a size error
+-- the store after a receiver took its value, and whether it had a size error; with one under a SIZE
+-- phrase it stays as it was
 abbrev pub stored_in : Bool → Roots → Spot → Bool → Sign → Stored → Outcome Bool
 stored_in guarded store spot signed sign stored =
     if stored.size_error && guarded
@@ -95,22 +101,27 @@ stored_in guarded store spot signed sign stored =
     else done (put_at store spot (number_bytes signed sign spot.length stored.value))
     stored.size_error
 
+-- the receiver takes the number; without one that it can hold, it has a size error
 abbrev pub given_by : Bool → Roots → Spot → Bool → Sign → Option Stored → Outcome Bool
 given_by guarded store spot signed sign None = done store true
 given_by guarded store spot signed sign (Some stored) =
     stored_in guarded store spot signed sign stored
 
+-- the receiver of this form takes the value, rounded or cut; whether it had a size error. Only a
+-- number item can take it
 abbrev pub given : Bool → Roots → Spot → Form → Bool → Value → Outcome Bool
 given guarded store spot (forms.Number signed whole part sign) rounded value =
     given_by guarded store spot signed sign (option_and_then (kept whole part rounded) value)
 given guarded store spot forms.Group rounded value = done store true
 given guarded store spot forms.Text rounded value = done store true
 
+-- how many decimal places an item of this form has
 abbrev pub part_of : Form → ℕ
 part_of (forms.Number signed whole part sign) = part
 part_of forms.Group = 0
 part_of forms.Text = 0
 
+-- one receiver is found, worked out for, and stored into; whether it had a size error
 abbrev pub targeted : List Area → Bool → Basis → Roots → Target → Outcome Bool
 targeted areas guarded basis store target =
     go_on store (reached target.place (memory_of areas store)) (λ now place.

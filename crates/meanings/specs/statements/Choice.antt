@@ -23,11 +23,13 @@ pub data Asked : Type 0 where
   Truth : Bool → Asked
   Beside : Side → Asked
 
+-- the subject, read once
 abbrev pub asked : Memory → Subject → Answer Asked
 asked memory subjects.True = Ok (Truth true)
 asked memory subjects.False = Ok (Truth false)
 asked memory (subjects.Value expr) = and_then (expr_side memory expr) (λ side. Ok (Beside side))
 
+-- the subject equals the value, or is between the two, both included
 abbrev pub in_range : Memory → Side → Expr → Option Expr → Answer Bool
 in_range memory side from None =
     and_then (expr_side memory from) (λ low. and_then (compared side low) (λ order.
@@ -37,10 +39,12 @@ in_range memory side from (Some to) =
     and_then (compared side low) (λ order.
     if is_ge order then and_then (compared side high) (λ upper. Ok (is_le upper)) else Ok false)))
 
+-- the test holds just where EVALUATE asks for it
 abbrev pub same_truth : Bool → Bool → Bool
 same_truth true test = test
 same_truth false test = not test
 
+-- one test of a WHEN holds of the subject
 abbrev pub test_holds : List Entry → Memory → Asked → Test → Answer Bool
 test_holds entries memory subject tests.Any = Ok true
 test_holds entries memory (Truth truth) (tests.Holds cond) =
@@ -49,19 +53,22 @@ test_holds entries memory (Beside side) (tests.Value turn from to) =
     and_then (in_range memory side from to) (λ test. Ok (turned turn test))
 test_holds entries memory _ _ = Ok false
 
+-- one of the tests of a WHEN holds; the later ones aren't looked at
 abbrev pub one_holds : List Entry → Memory → Asked → List Test → Answer Bool
 one_holds entries memory subject [] = Ok false
 one_holds entries memory subject (test ∷ others) =
     and_then (test_holds entries memory subject test) (λ here.
     if here then Ok true else one_holds entries memory subject others)
 
--- the first WHEN of which a test holds; where there is none, the number behind the last
+-- the number of the first WHEN of which a test holds; where there is none, the number after the
+-- last
 abbrev pub when_chosen : List Entry → Memory → Asked → ℕ → List (List Test) → Answer ℕ
 when_chosen entries memory subject number [] = Ok number
 when_chosen entries memory subject number (when ∷ whens) =
     and_then (one_holds entries memory subject when) (λ here.
     if here then Ok number else when_chosen entries memory subject (suc number) whens)
 
+-- the arm that EVALUATE takes, from 1
 abbrev pub evaluated : List Entry → Memory → Subject → List (List Test) → Answer ℕ
 evaluated entries memory subject whens =
     and_then (asked memory subject) (λ read. when_chosen entries memory read 1 whens)

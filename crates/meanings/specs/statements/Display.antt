@@ -19,13 +19,13 @@ operand_shown memory operand =
       | Operand-F.Figure figure ↦ Ok (figure_byte figure ∷ [])
     ]
 
--- the bytes of the operands behind these
+-- the bytes of the operands after these
 abbrev pub shown_on : Memory → List ℕ → List Operand → Answer (List ℕ)
 shown_on memory bytes [] = Ok bytes
 shown_on memory bytes (operand ∷ operands) =
     and_then (operand_shown memory operand) (λ more. shown_on memory (bytes ++ more) operands)
 
--- the operands one behind the other, and a line feed unless NO ADVANCING
+-- the operands one after the other, and a line feed unless NO ADVANCING
 abbrev pub displayed : Memory → List Operand → Bool → Answer (List ℕ)
 displayed memory operands advance =
     and_then (shown_on memory [] operands) (λ bytes.

@@ -18,9 +18,11 @@ use Rattle.meanings.specs.statements.Arithmetic.{calculated}
 use Rattle.meanings.specs.statements.Choice.{if_chosen, evaluated}
 use Rattle.meanings.specs.statements.Filing.{Declared, Effect, Ended, Went, Chose, Abended, no_effect, of_outcome, each_file, opened, shut, read, written, rewritten}
 
+-- what is stored, with where the items lie
 abbrev pub memory_in : Declared → Roots → Memory
 memory_in declared store = memory_of declared.areas.items store
 
+-- DISPLAY of these bytes
 abbrev pub shows : Roots → World → Answer (List ℕ) → Effect
 shows store world (Ok bytes) =
     record {
@@ -30,31 +32,39 @@ shows store world (Ok bytes) =
     }
 shows store world (Err abend) = no_effect store (Abended abend)
 
+-- what stores and shows nothing: the statement went on, or ended the run
 abbrev pub of_moves : Outcome (Unit {0}) → Effect
 of_moves outcome = of_outcome outcome.store outcome.answer Went
 
--- with a SIZE phrase the first arm is taken where a receiver had a size error, and else the second
+-- how arithmetic ends: with a SIZE phrase the first arm is taken where a receiver had a size error,
+-- and else the second
 abbrev pub arm_of : Bool → Bool → Ended
 arm_of false error = Went
 arm_of true error = if error then Chose 1 else Chose 2
 
+-- arithmetic: with a phrase an arm is chosen, without one the statement went on
 abbrev pub of_sum : Bool → Roots → Answer Bool → Effect
 of_sum guarded store (Ok error) = no_effect store (arm_of guarded error)
 of_sum guarded store (Err abend) = no_effect store (Abended abend)
 
+-- this arm is chosen, and nothing else is done
 abbrev pub chooses : Roots → Answer ℕ → Effect
 chooses store (Ok arm) = no_effect store (Chose arm)
 chooses store (Err abend) = no_effect store (Abended abend)
 
+-- the statement has its first arm
 abbrev pub has_first : Arms → Bool
 has_first arms = is_some (out-Arms arms).first
 
+-- the statement has an arm
 abbrev pub has_arms : Arms → Bool
 has_arms arms = has_first arms || is_some (out-Arms arms).second
 
+-- arithmetic, after it was worked out
 abbrev pub calculates : Declared → Roots → Bool → Outcome Bool → Effect
 calculates declared store guarded outcome = of_sum guarded outcome.store outcome.answer
 
+-- what a simple statement does, and which arm one that chooses takes
 abbrev pub does : Declared → Stmt → Roots → World → Effect
 does declared stmt store world =
     elim (out-Stmt stmt) [

@@ -29,20 +29,22 @@ use Rattle.meanings.specs.statements.Condition.{spans_of}
 
 -- ---- forms
 
--- the form that a place has, whatever its subscripts; a window makes text of any item
+-- the form of a place, whatever its subscripts; a window makes text of any item
 abbrev pub area_form : Bool → Option Area → Form
 area_form windowed None = forms.Text
 area_form true (Some area) = forms.Text
 area_form false (Some area) = area.form
 
+-- the form of the item that a place names
 abbrev pub form_of : List Area → Place → Form
 form_of areas place =
     area_form (is_some (out-Place place).window) (slice_get areas (out-Place place).item)
 
--- an item as it stands, without subscripts and window
+-- the spot of a whole item, without subscripts and window
 abbrev pub item_reached : ℕ → OfMemory Reached
 item_reached item memory = reached_in memory [] None (slice_get memory.areas item)
 
+-- the item is a group
 abbrev pub is_group : Form → Bool
 is_group forms.Group = true
 is_group _ = false
@@ -58,22 +60,25 @@ pub data Sender : Type 0 where
   Written : Number → Sender
   Counted : (bytes : List ℕ) → (digits : ℕ) → (number : Option Dec) → Sender
 
--- the number is read where it is asked for
+-- a number item as a sender; the number is read where it is asked for
 abbrev pub counted : Bool → Bool → ℕ → ℕ → Sign → List ℕ → Answer Sender
 counted false signed whole part sign bytes = Ok (Counted bytes (whole + part) None)
 counted true signed whole part sign bytes =
     and_then (number_of (number_in signed sign bytes) part) (λ number.
     Ok (Counted bytes (whole + part) (Some number)))
 
+-- a sender with these bytes, by its form
 abbrev pub sent : Bool → Form → List ℕ → Answer Sender
 sent asked forms.Group bytes = Ok (Grouped bytes)
 sent asked forms.Text bytes = Ok (Spelled bytes)
 sent asked (forms.Number signed whole part sign) bytes = counted asked signed whole part sign bytes
 
+-- a sender that is a place
 abbrev pub place_sent : Memory → Bool → OfMemory Reached → Answer Sender
 place_sent memory asked place =
     and_then (place memory) (λ place. sent asked place.form (spot_bytes memory.store place.spot))
 
+-- a sender as it is read
 abbrev pub operand_sent : Memory → Bool → Operand → Answer Sender
 operand_sent memory asked operand =
     elim (out-Operand operand) [
@@ -85,8 +90,8 @@ operand_sent memory asked operand =
 
 -- ---- receivers
 
--- the number as an item with that picture takes it: aligned, high and low digits cut, the sign
--- dropped where unsigned
+-- the bytes of the number as an item with that picture takes it: aligned, high and low digits cut,
+-- the sign dropped where unsigned
 abbrev pub number_received : Bool → ℕ → ℕ → Sign → ℕ → Dec → Answer (List ℕ)
 number_received signed whole part sign size number =
     and_then (there_or BadDigits (kept whole part false number)) (λ stored.
@@ -97,9 +102,11 @@ abbrev pub text_number : List ℕ → Answer Dec
 text_number bytes =
     number_of (option_map (λ number. pos number) (digits_value (drop (length bytes - 18) bytes))) 0
 
+-- the number, or BAD-DIGITS where there is none
 abbrev pub none_is_bad : Value → Answer Dec
 none_is_bad = there_or BadDigits
 
+-- the number that a receiver takes from a sender
 abbrev pub sender_number : Sender → Answer Dec
 sender_number (Figured figure) = none_is_bad (decimal (pos 0) 0)
 sender_number (Grouped bytes) = text_number bytes
@@ -113,6 +120,7 @@ digits_of digits None = []
 digits_of digits (Some number) =
     if nat_le digits 18 then padded digits (unsigned_abs number.value) else []
 
+-- the bytes that a text receiver of this length takes from a sender
 abbrev pub sender_text : ℕ → Sender → List ℕ
 sender_text size (Figured figure) = replicate size (figure_byte figure)
 sender_text size (Grouped bytes) = fitted size bytes
@@ -120,12 +128,13 @@ sender_text size (Spelled bytes) = fitted size bytes
 sender_text size (Written number) = fitted size number.digits
 sender_text size (Counted bytes digits number) = fitted size (digits_of digits number)
 
--- a group takes the bytes of an item, whatever its form
+-- the bytes that a group takes from a sender, whatever its form
 abbrev pub sender_bytes : ℕ → Sender → List ℕ
 sender_bytes size (Counted bytes digits number) = fitted size bytes
 sender_bytes size sender = sender_text size sender
 
--- what a receiver of that form and length is given; to and from a group it is bytes
+-- the bytes that a receiver of that form and length is given; to and from a group they are moved as
+-- they are
 abbrev pub received : Form → ℕ → Sender → Answer (List ℕ)
 received forms.Group size sender = Ok (sender_bytes size sender)
 received forms.Text size sender = Ok (sender_text size sender)
@@ -133,9 +142,11 @@ received (forms.Number signed whole part sign) size (Grouped bytes) = Ok (fitted
 received (forms.Number signed whole part sign) size sender =
     and_then (sender_number sender) (number_received signed whole part sign size)
 
+-- these bytes are stored at the spot
 abbrev pub put_answer : Roots → Spot → Answer (List ℕ) → Outcome (Unit {0})
 put_answer store spot bytes = go_on store bytes (λ now given. done (put_at now spot given) tt)
 
+-- one receiver is found, and takes the sender
 abbrev pub receive : List Area → Sender → Roots → OfMemory Reached → Outcome (Unit {0})
 receive areas sender store place =
     go_on store (place (memory_of areas store)) (λ now place.
@@ -151,12 +162,13 @@ moved areas from to store =
     go_on store (operand_sent (memory_of areas store) (not (all_groups areas to)) from)
     (λ now sender. each (λ store place. receive areas sender store (reached place)) now to)
 
--- from one place to another
+-- the store after a sender was moved to a place
 abbrev pub sent_on : List Area → Answer Sender → OfMemory Reached → Roots → Outcome (Unit {0})
 sent_on areas sender to store = go_on store sender (λ now read. receive areas read now to)
 
 -- ---- SET
 
+-- the first of these values is moved to the item
 abbrev pub first_moved : List Area → Place → List Span → Roots → Outcome (Unit {0})
 first_moved areas place [] store = done store tt
 first_moved areas place (span ∷ spans) store = moved areas span.from (place ∷ []) store

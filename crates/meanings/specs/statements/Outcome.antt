@@ -3,18 +3,21 @@ use Rattle.std.specs.Prelude.{Ok, Err, List, [], ◌∷◌}
 use Rattle.cob_store.specs.Answer.{Answer}
 use Rattle.cob_store.specs.Store.{Roots}
 
+-- a store, and an answer or the end of the run
 pub record Outcome (A : Type 0) : Type 0 where
   pub store : Roots
   pub answer : Answer A
 
+-- the store is so, and the answer this
 abbrev pub done : {A : Type 0} → Roots → A → Outcome A
 done store a = record { store = store; answer = Ok a }
 
--- goes on with the store and the answer
+-- what comes after an answer: it goes on with the store and the answer, or the run ends
 abbrev pub go_on : {A B : Type 0} → Roots → Answer A → (Roots → A → Outcome B) → Outcome B
 go_on store (Ok a) next = next store a
 go_on store (Err abend) next = record { store = store; answer = Err abend }
 
+-- goes on with the store and the answer that the first left
 abbrev pub then_do : {A B : Type 0} → Outcome A → (Roots → A → Outcome B) → Outcome B
 then_do outcome next = go_on outcome.store outcome.answer next
 

@@ -23,6 +23,7 @@ pub enum Next {
     Stops,
 }
 
+/// What the head of this rest comes to.
 pub fn next_of(alloc: Global, rest: &[Item]) -> Result<Next, NoMemory>
     ensures { IfOk result (λ next. next ≡ next_of rest.now) }
 {

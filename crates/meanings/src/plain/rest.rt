@@ -1,4 +1,4 @@
-//! What is to do in a paragraph, and the returns that are pending.
+//! What is still to do in a paragraph, and the pending returns.
 
 ghost use Rattle.std.specs.Prelude.{◌≡◌, ◌++◌, ◌∷◌, ◌<◌, IfOk, OnOk, MatchResult};
 ghost use Rattle.std.specs.Vec.{vec_len, vec_capacity};
@@ -10,7 +10,7 @@ use cob_base::{Copied, Items, NoMemory};
 use cob_tree::{Program, Sentence};
 use std::alloc::Global;
 
-/// The whole rest of a paragraph; past the last one nothing.
+/// The whole rest of a paragraph; nothing after the last one.
 pub fn whole_rest(alloc: Global, program: &Program, number: u32) -> Result<Items<Item>, NoMemory>
     ensures { IfOk result (λ rest. rest ≡ whole_rest program.now number) }
 {
@@ -44,7 +44,7 @@ pub fn is_pending(number: u32, pending: &[Waiting]) -> bool
     false
 }
 
-/// The returns that are pending, with room for one more; without memory they stay.
+/// The pending returns, with room for one more; where there is no memory, they are given back.
 pub fn with_room(pending: Items<Waiting>) -> Result<Vec<Waiting>, Items<Waiting>>
     ensures { MatchResult result
         (λ room. (room.items ≡ pending) × (vec_len room < vec_capacity room))
@@ -57,7 +57,7 @@ pub fn with_room(pending: Items<Waiting>) -> Result<Vec<Waiting>, Items<Waiting>
     }
 }
 
-/// With one more in front, in room that is there.
+/// The pending returns with one more in front, for which there is room.
 pub fn put_first(room: Vec<Waiting>, first: Waiting) -> Items<Waiting>
     requires { vec_len room < vec_capacity room }
     ensures { result ≡ first ∷ room.items }

@@ -1,4 +1,4 @@
-//! Plain programs as they run: the state of one.
+//! The state of a plain program as it runs.
 
 use cob_base::{Items, Text};
 use cob_tree::{FlowFault, Stmt};
@@ -26,7 +26,7 @@ pub enum Over {
     Fault(FlowFault),
 }
 
-/// A run that stands somewhere, without files. The pending return that was made last stands first.
+/// The state of a run without files. The pending return that was made last comes first.
 #[derive(Debug, Drop)]
 pub struct PlainState {
     pub paragraph: u32,

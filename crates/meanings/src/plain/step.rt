@@ -28,7 +28,7 @@ pub fn begun(alloc: Global, program: &Program) -> Result<PlainState, NoMemory>
     })
 }
 
-/// One step. A state that is over stays, and so does one for whose step there is no memory. A
+/// Makes one step. A state that is over stays, and so does one for whose step there is no memory. A
 /// statement that isn't of the plain form is dropped.
 pub fn plain_step(alloc: Global, program: &Program, state: &mut PlainState) -> Result<(), NoMemory>
     ensures ok { OnOk result (IsStep program.now state.old state.new) }
@@ -105,7 +105,7 @@ fn perform(
     }
 }
 
-// Control is in a range, with this whole rest, in front of the other returns.
+// Enters a range, with this whole rest, and puts its return before the other ones.
 fn enter(state: &mut PlainState, entry: u32, exit: u32, rest: Items<Item>, others: Vec<Waiting>)
     requires { vec_len others < vec_capacity others }
     ensures { state.new ≡ entered entry exit rest others.items state.old }
@@ -121,7 +121,7 @@ fn enter(state: &mut PlainState, entry: u32, exit: u32, rest: Items<Item>, other
     state.paragraph = entry;
 }
 
-// The end of a paragraph.
+// Takes the end of a paragraph: a pending return, or the next paragraph.
 fn end(alloc: Global, program: &Program, state: &mut PlainState) -> Result<(), NoMemory>
     ensures ok { OnOk result (state.new ≡ ended program.now state.old (slice_get state.old.pending 0)) }
     ensures err { OnErr result (state.new ≡ state.old) }
@@ -142,7 +142,7 @@ fn end(alloc: Global, program: &Program, state: &mut PlainState) -> Result<(), N
     }
 }
 
-// The return that was made last is taken.
+// Takes the return that was made last.
 fn take_return(alloc: Global, state: &mut PlainState)
     requires { 0 < length state.old.pending }
     ensures { (top : Waiting) → slice_get state.old.pending 0 ≡ Some top
@@ -160,7 +160,7 @@ fn take_return(alloc: Global, state: &mut PlainState)
     state.rest = rest;
 }
 
-// On to the next paragraph; past the last one the run stops.
+// Goes on to the next paragraph; after the last one the run stops.
 fn fall(alloc: Global, program: &Program, state: &mut PlainState) -> Result<(), NoMemory>
     ensures ok { OnOk result (state.new ≡ fallen program.now state.old) }
     ensures err { OnErr result (state.new ≡ state.old) }

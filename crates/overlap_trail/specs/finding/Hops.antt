@@ -16,6 +16,7 @@ abbrev pub aim_of : FlowFault → SearchGoal
 aim_of (Overlap paragraph) = End paragraph
 aim_of (Reentry paragraph) = Ending paragraph
 
+-- what a level is followed to: the later range, or the fault where there is none
 abbrev pub aim_before : Option Range → FlowFault → SearchGoal
 aim_before None fault = aim_of fault
 aim_before (Some later) fault = Enter later
@@ -24,6 +25,7 @@ aim_before (Some later) fault = Enter later
 abbrev pub aim_at : List Range → FlowFault → ℕ → SearchGoal
 aim_at ranges fault number = aim_before (slice_get ranges (suc number)) fault
 
+-- the move that enters the later range, if there is one
 abbrev pub into_of : Option Range → List Move
 into_of None = []
 into_of (Some later) = Into ∷ []
@@ -38,6 +40,7 @@ IsHop table numbers range later fault hop = (hop.range ≡ range) × ((moves : L
 pub record HopsCome (table : Table) (numbers : List (Option ℕ)) (ranges : List Range) (fault :
     FlowFault) (hops : List Hop) : Type 0 where
   pub size : length hops ≡ length ranges
+  -- each hop follows the level of its range
   pub each : (at : ℕ) (range : Range) (hop : Hop) → slice_get ranges at ≡ Some range →
       slice_get hops at ≡ Some hop →
       IsHop table numbers range (slice_get ranges (suc at)) fault hop

@@ -11,7 +11,7 @@ use Rattle.pending_returns.specs.levels.Reach.{trues}
 use Rattle.overlap_trail.specs.declared.finding.return_lemmas.ReturnLemmas.{ReturnLemmas}
 use Rattle.overlap_trail.specs.finding.Search.{flags_of}
 
--- no range stands twice
+-- no range comes twice
 abbrev pub RangesOnce : List Range → Type 0
 RangesOnce ranges = (a b : ℕ) (range : Range) → slice_get ranges a ≡ Some range →
     slice_get ranges b ≡ Some range → a ≡ b
@@ -26,11 +26,15 @@ Numbers table lemmas numbers = (number lemma : ℕ) →
 -- the lemmas hold, one for each range that has a number
 pub record Knows (table : Table) (lemmas : List Lemma) (numbers : List (Option ℕ)) : Type 0 where
   pub size : length numbers ≡ length table.ranges
+  -- a range with a number has that lemma
   pub numbered : Numbers table lemmas numbers
+  -- each lemma is that of a range with its number
   pub from : (range : Range) → IsIn range (lemma_ranges lemmas) → (number : ℕ) × (lemma : ℕ)
       × (slice_get table.ranges number ≡ Some range)
       × (slice_get numbers number ≡ Some (Some lemma))
+  -- no range comes twice
   pub once : NoneTwice (lemma_ranges lemmas)
+  -- the lemmas hold in each program of which this is a table
   pub hold : (never_first : Chooser → Bool) (program : Program) (points : ℕ → Point) →
       IsTable never_first program table points → LemmasHold never_first program [] lemmas
 

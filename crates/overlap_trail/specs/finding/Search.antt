@@ -10,6 +10,7 @@ use Rattle.program_points.specs.declared.point_table.table.ProgramPoint.TheVaria
 use Rattle.program_points.specs.declared.point_table.table.Table.{Table}
 use Rattle.overlap_trail.specs.declared.finding.search.Predecessor.{Predecessor}
 
+-- there is a number
 abbrev pub is_there : Option ℕ → Bool
 is_there None = false
 is_there (Some number) = true
@@ -37,6 +38,7 @@ GoesBy table numbers range (Ends paragraph) moved next = (moved ≡ None)
     × (is_exit range.exit paragraph ≡ false)
     × (slice_get table.starts (suc paragraph) ≡ Some next)
 
+-- the move alone, or none
 abbrev pub listed : Option Move → List Move
 listed None = []
 listed (Some moved) = moved ∷ []
@@ -58,8 +60,10 @@ pub record Tracks (New : ℕ → Predecessor → Type 0) (before after : List �
     (came later : List Predecessor)
     : Type 0 where
   pub size : length later ≡ length after
+  -- how the old places were come to is the same
   pub kept : (at : ℕ) (how : Predecessor) → slice_get came at ≡ Some how →
       slice_get later at ≡ Some how
+  -- how each new one was come to is as it must be
   pub new : (at place : ℕ) (how : Predecessor) → length before ≤ at →
       slice_get after at ≡ Some place →
       slice_get later at ≡ Some how → New place how
@@ -84,17 +88,22 @@ IsFrom Steps places at place how = (from : ℕ) × (how.before < at)
 pub record Traces (First : ℕ → Type 0) (Steps : ℕ → Option Move → ℕ → Type 0) (places : List ℕ)
     (came : List Predecessor) : Type 0 where
   pub size : length came ≡ length places
+  -- the first place is one from which control begins
   pub first : (place : ℕ) → slice_get places 0 ≡ Some place → First place
+  -- each other one was come to from one before it
   pub later : (at place : ℕ) (how : Predecessor) → 0 < at → slice_get places at ≡ Some place →
       slice_get came at ≡ Some how → IsFrom Steps places at place how
 
+-- the place is where the range begins
 abbrev pub BeginsLevel : Table → Range → ℕ → Type 0
 BeginsLevel table range place = slice_get table.starts range.entry ≡ Some place
 
+-- in the range's level control goes from one place to the other, by this move or by none
 abbrev pub StepsLevel : Table → List (Option ℕ) → Range → ℕ → Option Move → ℕ → Type 0
 StepsLevel table numbers range from moved to = (here : ProgramPoint)
     × (slice_get table.places from ≡ Some here) × GoesBy table numbers range here moved to
 
+-- the places were come to in the range's level, each from one before it
 abbrev pub TracesLevel : Table → List (Option ℕ) → Range → List ℕ → List Predecessor → Type 0
 TracesLevel table numbers range places came =
     Traces (λ place. BeginsLevel table range place)

@@ -13,6 +13,7 @@ use Rattle.program_points.specs.declared.paths.trail.Lemma.{Lemma}
 use Rattle.program_points.specs.declared.paths.trail.Hop.{Hop}
 use Rattle.program_points.specs.declared.paths.trail.Trail.{Trail}
 
+-- the label, or a star where there is none
 abbrev pub label_or_star : Option (List ℕ) → List ℕ
 label_or_star None = codes "*"
 label_or_star (Some label) = label
@@ -27,15 +28,17 @@ range_between paragraphs entry None = codes "MAIN"
 range_between paragraphs entry (Some exit) =
     label_text paragraphs entry ++ codes " THRU " ++ label_text paragraphs exit
 
+-- a range, by the labels of its entry and exit
 abbrev pub range_text : List Paragraph → Range → List ℕ
 range_text paragraphs range = range_between paragraphs range.entry range.exit
 
--- a move, behind a space
+-- a move, after a space
 abbrev pub move_text : Move → List ℕ
 move_text (Arm number) = codes " ARM " ++ decimal number
 move_text (Over number) = codes " OVER " ++ decimal number
 move_text Into = codes " INTO"
 
+-- the moves, each after a space
 abbrev pub moves_text : List Move → List ℕ
 moves_text [] = []
 moves_text (move ∷ moves) = move_text move ++ moves_text moves
@@ -44,27 +47,29 @@ moves_text (move ∷ moves) = move_text move ++ moves_text moves
 abbrev pub level_text : List Paragraph → Range → List Move → List ℕ
 level_text paragraphs range moves = range_text paragraphs range ++ codes ":" ++ moves_text moves
 
--- the first line
+-- the first line of a trail: its fault
 abbrev pub fault_text : List Paragraph → FlowFault → List ℕ
 fault_text paragraphs (Overlap paragraph) =
     codes "FLOW OVERLAP " ++ label_text paragraphs paragraph
 fault_text paragraphs (Reentry paragraph) =
     codes "FLOW REENTRY " ++ label_text paragraphs paragraph
 
+-- the line of the lemma with this number
 abbrev pub lemma_text : List Paragraph → (number : ℕ) → Lemma → List ℕ
 lemma_text paragraphs number lemma =
     codes "RETURN " ++ decimal number ++ codes " " ++ level_text paragraphs lemma.range lemma.moves
 
+-- the line of a hop
 abbrev pub hop_text : List Paragraph → Hop → List ℕ
 hop_text paragraphs hop = codes "IN " ++ level_text paragraphs hop.range hop.moves
 
--- a line for each lemma, behind a line feed; they are numbered from this number on
+-- a line for each lemma, after a line feed; they are numbered from this number on
 abbrev pub lemma_lines : List Paragraph → (from : ℕ) → List Lemma → List ℕ
 lemma_lines paragraphs from [] = []
 lemma_lines paragraphs from (lemma ∷ lemmas) =
     line_feed ∷ lemma_text paragraphs from lemma ++ lemma_lines paragraphs (suc from) lemmas
 
--- a line for each hop, behind a line feed
+-- a line for each hop, after a line feed
 abbrev pub hop_lines : List Paragraph → List Hop → List ℕ
 hop_lines paragraphs [] = []
 hop_lines paragraphs (hop ∷ hops) =

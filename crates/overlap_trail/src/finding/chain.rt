@@ -15,14 +15,14 @@ use pending_returns::levels::ends_at;
 use pending_returns::{RangeFacts, number_of, visit_calls};
 use std::alloc::Global;
 
-/// The ranges of the hops, main first, with the fault that the last one's level does.
+/// The ranges of the hops, main first, with the fault that the last one's level comes to.
 #[derive(Debug, Drop)]
 pub struct CallChain {
     pub ranges: Vec<Range>,
     pub fault: FlowFault,
 }
 
-/// Comes to the ranges with these numbers, from the one that was come to as this one.
+/// Adds the ranges with these numbers, come to from the one with number `before`.
 fn come_by_calls(route: &mut SearchTree, calls: &[u32], before: u32) -> Result<(), NoMemory>
     requires marked { IsMarked route.old.reach.places.items route.old.reach.marks.items }
     requires below { AllBelow (length route.old.reach.marks.items) calls.now }
@@ -46,7 +46,7 @@ fn come_by_calls(route: &mut SearchTree, calls: &[u32], before: u32) -> Result<(
     Ok(())
 }
 
-/// The ranges to which calls lead from this one, with how each was come to.
+/// The ranges to which calls lead from this one, each with how it was come to.
 fn led_from(alloc: Global, levels: &[RangeFacts], base: u32) -> Result<SearchTree, NoMemory>
     requires base { base < length levels.now }
     requires known { CallsBelow (length levels.now) levels.now }
@@ -72,7 +72,7 @@ fn led_from(alloc: Global, levels: &[RangeFacts], base: u32) -> Result<SearchTre
     Ok(route)
 }
 
-/// Where the number stands among these.
+/// The place of the number among these, where it is among them.
 fn place_in(numbers: &[u32], number: u32) -> Option<usize>
     ensures { MatchOption result (Holds numbers.now number → ⊥)
         (λ at. slice_get numbers.now at ≡ Some number) }
@@ -85,7 +85,7 @@ fn place_in(numbers: &[u32], number: u32) -> Option<usize>
     None
 }
 
-/// The places that were come to behind the first one, up to this one.
+/// The places on the way to this one, after the first.
 fn way_to(
     alloc: Global,
     came: &[Predecessor],
@@ -110,7 +110,7 @@ fn way_to(
     Ok(path)
 }
 
-/// The ranges behind the first one on a shortest way of calls between these.
+/// The ranges on a shortest path of calls between these, after the first.
 fn path_between(
     alloc: Global,
     levels: &[RangeFacts],
@@ -126,12 +126,12 @@ fn path_between(
     let places = route.reach.places.as_slice();
     match place_in(places, to) {
         Some(at) => way_to(alloc, route.came.as_slice(), places, at),
-        // Calls lead there.
+        // This can't happen: calls lead there.
         None => Ok(Vec::new(alloc)),
     }
 }
 
-/// Whether one of the ranges ends there.
+/// Whether one of the ranges ends at this paragraph.
 fn is_pending(ranges: &[Range], end: u32) -> bool
     ensures { IsTrue result ↔ EndsAmong ranges.now end }
 {
@@ -143,7 +143,7 @@ fn is_pending(ranges: &[Range], end: u32) -> bool
     false
 }
 
-/// The end of the range, where one of these ends there too.
+/// The end of the range, where one of these ranges ends there too.
 fn pending_end(ranges: &[Range], range: Range) -> Option<u32>
     ensures { MatchOption result
         ((end : ℕ) → range.exit ≡ Some end → EndsAmong ranges.now end → ⊥)
@@ -161,7 +161,7 @@ fn pending_end(ranges: &[Range], range: Range) -> Option<u32>
     }
 }
 
-/// The chain along these ranges, ended before the first that ends where one before it does.
+/// The chain along these ranges, cut off before the first that ends where an earlier one does.
 fn cut(
     alloc: Global,
     levels: &[RangeFacts],
@@ -190,7 +190,7 @@ fn cut(
     Ok(CallChain { ranges, fault })
 }
 
-/// Main, and behind it these ranges and then those.
+/// Main, then the ranges of `front`, and then those of `back`.
 fn main_then(alloc: Global, front: &[u32], back: &[u32]) -> Result<Vec<u32>, NoMemory>
     ensures { IfOk result (λ path. path.items ≡ 0 ∷ (front.now ++ back.now)) }
 {

@@ -1,4 +1,4 @@
-//! A trail, where the program is faulty.
+//! A trail of a faulty program.
 
 ghost use Rattle.std.specs.Prelude.{IfOk, MatchOption};
 ghost use Rattle.control_flow_theory.specs.language.Control.{control_of};
@@ -46,7 +46,7 @@ pub fn found(
     })
 }
 
-/// A trail exactly where the program is faulty. Err where memory is wanted.
+/// A trail exactly where the program is faulty. Err where memory runs out.
 pub fn find(alloc: Global, program: &Program, summary: &Summary) -> Result<Option<Trail>, NoMemory>
     requires { IsSummary (never_first_of program.now.files) (control_of program.now) summary.now }
     ensures { IfOk result (λ found. MatchOption found

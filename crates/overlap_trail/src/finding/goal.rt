@@ -1,4 +1,4 @@
-//! Where a level is to come.
+//! Where a search of a level ends.
 
 ghost use Rattle.std.specs.Prelude.{◌≤◌, ◌↔◌, length, IfOk, IsTrue, MatchOption};
 ghost use Rattle.program_points.specs.point_table.Table.{IsTidy};
@@ -14,7 +14,7 @@ use program_points::paths::Move;
 use program_points::point_table::{ProgramPoint, Table};
 use std::alloc::Global;
 
-/// What a level is followed to.
+/// What a search of a level is for.
 #[derive(Debug, Clone, Copy)]
 pub enum SearchGoal {
     /// The end of this paragraph.
@@ -25,7 +25,7 @@ pub enum SearchGoal {
     Ending(u32),
 }
 
-/// Whether the aim is met at a place.
+/// Whether a place is what the search is for.
 pub fn is_met(table: &Table, aim: SearchGoal, place: &ProgramPoint) -> bool
     ensures { IsTrue result ↔ IsAimed table.now aim place.now }
 {
@@ -47,7 +47,7 @@ pub fn is_met(table: &Table, aim: SearchGoal, place: &ProgramPoint) -> bool
     }
 }
 
-/// The number of the first of the places at which the aim is met.
+/// The number of the first of these places that is what the search is for.
 pub fn first_met(table: &Table, aim: SearchGoal, places: &[u32]) -> Option<usize>
     requires { AllPlaces (length table.now.places) places.now }
     ensures { MatchOption result (NoneMeets table.now aim places.now)
@@ -62,16 +62,15 @@ pub fn first_met(table: &Table, aim: SearchGoal, places: &[u32]) -> Option<usize
     None
 }
 
-/// What was found: the moves to where an aim is met, or, where it is met nowhere that the level
-/// comes to, the places that it comes to.
+/// What a search found: the moves to what it is for, or, where the level doesn't come to that, all
+/// places that the level comes to.
 #[derive(Debug, Drop)]
 pub enum SearchOutcome {
     Moves(Items<Move>),
     Nowhere(Vec<u32>),
 }
 
-/// The moves by which the range's level comes to where the aim is met, over the ranges that have
-/// lemmas.
+/// Searches a range's level for `aim`, stepping over the ranges that have lemmas.
 pub fn route_to(
     alloc: Global,
     table: &Table,

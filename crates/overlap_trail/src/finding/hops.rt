@@ -16,7 +16,7 @@ use program_points::paths::{Hop, Move};
 use program_points::point_table::Table;
 use std::alloc::Global;
 
-/// What the level with this number is followed to.
+/// What the search of the level with this number is for.
 fn aim_of(chain: &CallChain, number: usize) -> SearchGoal
     requires { number < length chain.now.ranges.items }
     ensures { result ≡ aim_at chain.now.ranges.items chain.now.fault number }
@@ -30,7 +30,7 @@ fn aim_of(chain: &CallChain, number: usize) -> SearchGoal
     }
 }
 
-/// The moves, and into a range then if there is one more.
+/// The moves, and then one into a range where `more` says so.
 fn entering(moves: Items<Move>, more: bool) -> Result<Items<Move>, NoMemory>
     ensures on { more ≡ true → IfOk result (λ made. made ≡ moves ++ Into ∷ []) }
     ensures off { more ≡ false → IfOk result (λ made. made ≡ moves) }
@@ -42,7 +42,7 @@ fn entering(moves: Items<Move>, more: bool) -> Result<Items<Move>, NoMemory>
     Ok(made)
 }
 
-/// The levels of the chain's ranges: each to where it performs the next, and the last to the fault.
+/// The hops of the chain's ranges: each to where it performs the next, and the last to the fault.
 pub fn hops_of(
     alloc: Global,
     table: &Table,
@@ -68,7 +68,7 @@ pub fn hops_of(
                 let moves = entering(found, number + 1 < count)?;
                 hops.push(Hop { range, moves })?;
             }
-            // Each level comes to its aim.
+            // This can't happen: each level comes to what it is searched for.
             SearchOutcome::Nowhere(_) => return Ok(hops),
         }
     }

@@ -10,7 +10,7 @@ use pending_returns::number_of;
 use program_points::paths::{Hop, Lemma, Move, Trail};
 use std::alloc::Global;
 
-/// Flags the lemma, if it is one below this number.
+/// Flags the lemma, where its number is below this one.
 fn flag(needed: &mut Vec<bool>, lemma: u32, until: usize)
     requires { until ≤ length needed.old.items }
     ensures adds { Adds until needed.old.items needed.new.items }
@@ -21,7 +21,7 @@ fn flag(needed: &mut Vec<bool>, lemma: u32, until: usize)
     }
 }
 
-/// Flags the lemma over which the move steps, if it is one below this number.
+/// Flags the lemma by which the move steps over a range, where its number is below this one.
 fn flag_over(needed: &mut Vec<bool>, moved: Move, until: usize)
     requires { until ≤ length needed.old.items }
     ensures adds { Adds until needed.old.items needed.new.items }
@@ -34,7 +34,7 @@ fn flag_over(needed: &mut Vec<bool>, moved: Move, until: usize)
     }
 }
 
-/// Flags the lemmas below this number over which the moves step.
+/// Flags the lemmas with numbers below this one by which the moves step over ranges.
 fn need(needed: &mut Vec<bool>, moves: &[Move], until: usize)
     requires { until ≤ length needed.old.items }
     ensures adds { Adds until needed.old.items needed.new.items }
@@ -56,7 +56,7 @@ fn need_of_hops(needed: &mut Vec<bool>, hops: &[Hop])
     }
 }
 
-/// Flags the lemmas that this one needs, if it has a flag.
+/// Flags the lemmas that this one needs, where it has a flag itself.
 fn need_of(needed: &mut Vec<bool>, lemma: &Lemma, number: usize)
     requires { number < length needed.old.items }
     ensures adds { Adds number needed.old.items needed.new.items }
@@ -81,7 +81,7 @@ fn need_of_lemmas(needed: &mut Vec<bool>, lemmas: &[Lemma])
     }
 }
 
-/// A flag for each lemma that the hops need, or that one of these needs.
+/// A flag for each lemma that the hops need, or that a flagged lemma needs.
 fn needed_of(alloc: Global, lemmas: &[Lemma], hops: &[Hop]) -> Result<Vec<bool>, NoMemory>
     ensures hops { IfOk result
         (λ needed. FlagHops needed.items (length lemmas.now) hops.now) }
@@ -122,7 +122,7 @@ fn renumbered(alloc: Global, ranks: &[Option<u32>], moves: &[Move]) -> Result<It
     Ok(made)
 }
 
-/// The lemmas that are kept, and of each lemma that there was its number among them.
+/// The lemmas that are kept, and for each old lemma its number among them.
 #[derive(Debug, Drop)]
 struct Kept {
     lemmas: Items<Lemma>,
@@ -130,7 +130,7 @@ struct Kept {
 }
 
 impl Kept {
-    /// Keeps the lemma if it has a flag, with the new numbers of those over which it steps.
+    /// Keeps the lemma, where it has a flag, with the new numbers of the lemmas that it needs.
     fn keep(&mut self, alloc: Global, lemma: &Lemma, needed: bool) -> Result<(), NoMemory>
         ensures { OnOk result (KeepsOne lemma.now needed self.old.lemmas self.old.ranks.items
             self.new.lemmas self.new.ranks.items) }
@@ -178,7 +178,7 @@ fn hops_by(alloc: Global, ranks: &[Option<u32>], hops: &[Hop]) -> Result<Items<H
     Ok(made)
 }
 
-/// The trail with the lemmas alone that its hops need, or that one of these needs.
+/// The trail with only the lemmas that its hops need, or that one of these needs.
 pub fn shortened(alloc: Global, trail: &Trail) -> Result<Trail, NoMemory>
     ensures { (never_first : Chooser → Bool) (program : Program) →
         IsFound never_first program trail.now →

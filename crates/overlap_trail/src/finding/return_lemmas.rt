@@ -17,8 +17,8 @@ use program_points::paths::Lemma;
 use program_points::point_table::{ProgramPoint, Table};
 use std::alloc::Global;
 
-/// Lemmas, each behind those over which it steps; and of each range of a table the number of its
-/// own.
+/// Lemmas, each after those that it needs; and for each range of a table the number of its own
+/// lemma.
 #[derive(Debug, Drop)]
 pub struct ReturnLemmas {
     pub lemmas: Items<Lemma>,
@@ -26,7 +26,7 @@ pub struct ReturnLemmas {
 }
 
 impl ReturnLemmas {
-    /// None, of so many ranges.
+    /// No lemma, for so many ranges.
     pub fn new(alloc: Global, count: usize) -> Result<ReturnLemmas, NoMemory>
         ensures lemmas { IfOk result (λ known. known.lemmas ≡ []) }
         ensures numbers { IfOk result (λ known. known.numbers.items ≡ replicate count None) }
@@ -38,7 +38,7 @@ impl ReturnLemmas {
         })
     }
 
-    /// Adds a lemma, of the range with this number.
+    /// Adds a lemma for the range with this number.
     pub fn add(&mut self, number: usize, lemma: Lemma) -> Result<(), NoMemory>
         requires { number < length self.old.numbers.items }
         ensures lemmas { OnOk result (self.new.lemmas ≡ self.old.lemmas ++ lemma ∷ []) }
@@ -52,9 +52,9 @@ impl ReturnLemmas {
     }
 }
 
-/// Adds a lemma of the range with this number, which has none, where its level comes to its return
-/// over the ranges that have lemmas. Else the places that it comes to; none of main, which doesn't
-/// return.
+/// Adds a lemma for the range with this number, which has none, where its level comes to its
+/// return, stepping over the ranges that have lemmas. Otherwise answers the places that the level
+/// comes to; none for main, which doesn't return.
 pub fn add_if_returns(
     alloc: Global,
     table: &Table,
@@ -92,7 +92,7 @@ pub fn add_if_returns(
     }
 }
 
-/// The range waits for those that its level performs and that have no lemmas.
+/// Makes the range wait for those that its level performs and that have no lemmas.
 fn wait_all(
     work: &mut Worklist,
     table: &Table,
@@ -113,7 +113,8 @@ fn wait_all(
     Ok(())
 }
 
-/// Looks at the range with this number: what waits for it is to be looked at again, or it waits.
+/// Checks the range with this number: where it returns, what waits for it is checked again;
+/// otherwise it waits.
 fn look(
     alloc: Global,
     table: &Table,
@@ -142,7 +143,7 @@ fn look(
     }
 }
 
-/// Looks at each range, and again at those that wait for one that comes to return.
+/// Checks each range, and again those that wait for one that is found to return.
 fn look_all(alloc: Global, table: &Table, known: &mut ReturnLemmas) -> Result<(), NoMemory>
     requires tidy { IsTidy table.now }
     requires once { RangesOnce table.now.ranges }
@@ -161,7 +162,7 @@ fn look_all(alloc: Global, table: &Table, known: &mut ReturnLemmas) -> Result<()
     Ok(())
 }
 
-/// Looks at the range with this number, unless it has a lemma. Whether it has its first one now.
+/// Checks the range with this number, unless it has a lemma, and says whether it has got one now.
 fn is_new(
     alloc: Global,
     table: &Table,
@@ -184,7 +185,7 @@ fn is_new(
     }
 }
 
-/// Looks once at each range that has no lemma, and says whether one of them has one now.
+/// Checks each range that has no lemma once, and says whether one of them has got one.
 fn round(alloc: Global, table: &Table, known: &mut ReturnLemmas) -> Result<bool, NoMemory>
     requires tidy { IsTidy table.now }
     requires once { RangesOnce table.now.ranges }
@@ -204,8 +205,8 @@ fn round(alloc: Global, table: &Table, known: &mut ReturnLemmas) -> Result<bool,
     Ok(more)
 }
 
-/// The lemmas of all ranges of the table that return: those that are found by looking again at what
-/// waits, and then, in rounds, that there are no others.
+/// The lemmas of all ranges of the table that return. First a worklist finds them; then rounds over
+/// all ranges make sure that there are no others.
 pub fn known_of(alloc: Global, table: &Table) -> Result<ReturnLemmas, NoMemory>
     requires tidy { IsTidy table.now }
     requires once { RangesOnce table.now.ranges }

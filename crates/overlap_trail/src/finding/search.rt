@@ -23,14 +23,14 @@ pub struct Predecessor {
     pub moved: Option<Move>,
 }
 
-/// The places that were come to, with how each was.
+/// The places that were come to, each with how it was come to.
 #[derive(Debug, Drop)]
 pub struct SearchTree {
     pub reach: Reach,
     pub came: Vec<Predecessor>,
 }
 
-/// The move that takes the way with this number, from 0.
+/// The move that takes the way with this number, from 0; none where it is the only one.
 fn arm(alone: bool, number: usize) -> Result<Option<Move>, NoMemory>
     ensures { IfOk result (λ moved. moved ≡ arm_of alone number) }
 {
@@ -44,7 +44,7 @@ fn arm(alone: bool, number: usize) -> Result<Option<Move>, NoMemory>
     Ok(Some(Move::Arm(number + 1)))
 }
 
-/// Whether the way is there.
+/// Whether the way isn't missing.
 pub fn is_way(way: Option<u32>) -> bool
     ensures { result ≡ is_there way }
 {
@@ -54,7 +54,7 @@ pub fn is_way(way: Option<u32>) -> bool
     }
 }
 
-/// Whether exactly one of the ways is there.
+/// Whether exactly one of the ways isn't missing.
 fn is_alone(ways: &[Option<u32>]) -> bool
     ensures { result ≡ is_there (only ways.now) }
 {
@@ -71,7 +71,7 @@ fn is_alone(ways: &[Option<u32>]) -> bool
 }
 
 impl SearchTree {
-    /// No place yet, of so many.
+    /// A search of so many places that has come to none yet.
     pub fn new(alloc: Global, count: usize) -> Result<SearchTree, NoMemory>
         ensures none { IfOk result (λ route. route.reach.places.items ≡ []) }
         ensures marked { IfOk result
@@ -86,7 +86,7 @@ impl SearchTree {
         })
     }
 
-    /// Comes to a place, unless it was come to.
+    /// Adds a place, unless it was come to before.
     pub fn visit(&mut self, place: u32, came: Predecessor) -> Result<(), NoMemory>
         requires room { place < length self.old.reach.marks.items }
         requires marked { IsMarked self.old.reach.places.items self.old.reach.marks.items }
@@ -106,7 +106,7 @@ impl SearchTree {
         Ok(())
     }
 
-    /// Comes to all of these ways that are there.
+    /// Adds the places of all ways that aren't missing.
     pub fn visit_all(&mut self, ways: &[Option<u32>], before: u32) -> Result<(), NoMemory>
         requires marked { IsMarked self.old.reach.places.items self.old.reach.marks.items }
         requires below { AllBelow (length self.old.reach.marks.items) ways.now }
@@ -131,7 +131,7 @@ impl SearchTree {
         Ok(())
     }
 
-    /// Goes on from a place, over the ranges that have lemmas.
+    /// Goes on from a place, stepping over the ranges that have lemmas.
     pub fn visit_next(
         &mut self,
         table: &Table,
@@ -182,7 +182,7 @@ impl SearchTree {
         }
     }
 
-    /// Goes on past a paragraph's end, unless the range ends there.
+    /// Goes on after a paragraph's end, unless the range ends there.
     fn visit_past(
         &mut self,
         table: &Table,
@@ -221,8 +221,8 @@ impl SearchTree {
     }
 }
 
-/// All places that the range's level comes to, over the ranges that have lemmas, in the order in
-/// which they are come to.
+/// All places that the range's level comes to, stepping over the ranges that have lemmas, in the
+/// order in which it comes to them.
 pub fn followed(
     alloc: Global,
     table: &Table,

@@ -1,4 +1,4 @@
-//! A range's level: the range, and the moves that are followed in it.
+//! The text of a range's level: the range, and the moves that are followed in it.
 
 ghost use Rattle.std.specs.Prelude.{◌≡◌, ◌++◌, OnOk};
 ghost use Rattle.std.specs.Fmt.{decimal};
@@ -10,7 +10,7 @@ use out_names::paragraph_label;
 use program_points::paths::Move;
 use std::alloc::Global;
 
-/// Adds what shows a paragraph.
+/// Adds the label of a paragraph.
 pub fn add_label(text: &mut Text, paragraphs: &[Paragraph], number: u32) -> Result<(), NoMemory>
     ensures { OnOk result (text.new ≡ text.old ++ label_text paragraphs.now number) }
 {
@@ -20,7 +20,7 @@ pub fn add_label(text: &mut Text, paragraphs: &[Paragraph], number: u32) -> Resu
     }
 }
 
-/// Adds the words, and the number behind them.
+/// Adds the words, and the number after them.
 pub fn add_numbered(
     alloc: Global,
     text: &mut Text,
@@ -34,7 +34,7 @@ pub fn add_numbered(
     text.add(number.as_bytes())
 }
 
-/// Adds what names a range.
+/// Adds the text of a range.
 fn add_range(text: &mut Text, paragraphs: &[Paragraph], range: Range) -> Result<(), NoMemory>
     ensures { OnOk result (text.new ≡ text.old ++ range_text paragraphs.now range) }
 {

@@ -1,4 +1,4 @@
--- How what went wrong in a reading is told of a source.
+-- How what went wrong in reading a source is reported.
 use Rattle.std.specs.Prelude.{ℕ, ◌+◌, false}
 use Rattle.cob_base.specs.Limit.{most, past}
 use Rattle.cob_base.specs.declared.limit.Limit.{Limit}

@@ -1,4 +1,4 @@
-//! Words that a program takes for its own.
+//! Words that a program defines.
 
 ghost use Rattle.std.specs.Prelude.{◌≡◌};
 ghost use Rattle.parser_combinators.specs.Form as form;

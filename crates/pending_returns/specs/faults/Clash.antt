@@ -28,12 +28,17 @@ IsFine levels facts end = (EndsOne levels facts.calls end → ⊥) × (Holds fac
 
 -- from this range, which ends there, calls lead to a level that faults on that end
 pub record IsClash (levels : List RangeFacts) (base end : ℕ) (clash : Clash) : Type 0 where
+  -- the clash names the base
   pub is_base : clash.base ≡ base
+  -- calls lead from the base to the last range
   pub leads : LeadsFrom levels base clash.last
   pub facts : RangeFacts
+  -- these are the facts of the last range
   pub level : slice_get levels clash.last ≡ Some facts
+  -- which faults on the end
   pub faults : FaultsAt levels facts end clash.fault
 
+-- the clash is of some range that ends somewhere
 abbrev pub HasClash : List RangeFacts → Clash → Type 0
 HasClash levels clash = (base : ℕ) × (end : ℕ) × (facts : RangeFacts)
     × (slice_get levels base ≡ Some facts) × (facts.range.exit ≡ Some end)
@@ -49,6 +54,7 @@ abbrev pub NoneFrom : List RangeFacts → ℕ → Type 0
 NoneFrom levels base = (end : ℕ) (facts : RangeFacts) → slice_get levels base ≡ Some facts →
     facts.range.exit ≡ Some end → NoneBelow levels base end
 
+-- no two ranges clash
 abbrev pub NoClash : List RangeFacts → Type 0
 NoClash levels = (base end : ℕ) (facts : RangeFacts) → slice_get levels base ≡ Some facts →
     facts.range.exit ≡ Some end → NoneBelow levels base end

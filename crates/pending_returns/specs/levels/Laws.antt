@@ -8,6 +8,8 @@ use Rattle.program_points.specs.declared.point_table.table.Table.{Table}
 use Rattle.program_points.specs.point_table.Table.{IsTable, ComesIn, IsSound, IsClosed}
 use Rattle.pending_returns.specs.levels.Reach.{IsReach, IsCalled, IsEnded}
 
+-- a level comes in the table just where free flow paths of the program come, and a range that
+-- returns is marked so
 abbrev pub TableIsExact : Type 0
 TableIsExact = (never_first : Chooser → Bool) (program : Program) (table : Table) (points : ℕ →
     Point) (returns : List Bool) → IsTable never_first program table points →

@@ -7,6 +7,7 @@ use Rattle.pending_returns.specs.levels.Reach.{IsMarked}
 
 -- marks for so many, on what is in the list
 pub record Fits (count : ℕ) (reach : Reach) : Type 0 where
+  -- the marks are on just what is in the list
   pub marked : IsMarked reach.places.items reach.marks.items
   pub size : length reach.marks.items ≡ count
 

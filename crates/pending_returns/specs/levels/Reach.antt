@@ -9,20 +9,27 @@ use Rattle.program_points.specs.point_table.Table.{ComesIn, IsTable, IsSound}
 use Rattle.control_flow_theory.specs.language.Language.{Chooser, Program}
 use Rattle.program_points.specs.paths.Step.{Point}
 
+-- the list has this place
 abbrev pub Holds : List ℕ → ℕ → Type 0
 Holds places place = (at : ℕ) × (slice_get places at ≡ Some place)
 
--- the marks are on the places of the list, and none stands there twice
+-- the marks are on the places of the list, and none is there twice
 pub record IsMarked (places : List ℕ) (marks : List Bool) : Type 0 where
+  -- what is marked is in the list
   pub there : (place : ℕ) → slice_get marks place ≡ Some true → Holds places place
+  -- what is in the list is marked
   pub marked : (place : ℕ) → Holds places place → slice_get marks place ≡ Some true
+  -- nothing is in it twice
   pub once : (a b place : ℕ) → slice_get places a ≡ Some place → slice_get places b ≡ Some place →
       a ≡ b
 
--- the list has this place too then, and stands as it stood otherwise
+-- the list has this place too then, and is as it was otherwise
 pub record Adds (before after : List ℕ) (place : ℕ) : Type 0 where
+  -- the place is in the list then
   pub added : Holds after place
+  -- the old list is its beginning
   pub kept : (at other : ℕ) → slice_get before at ≡ Some other → slice_get after at ≡ Some other
+  -- it has no others
   pub only : (other : ℕ) → Holds after other → Holds before other ⊎ (other ≡ place)
 
 -- control goes on from the place to this one
@@ -42,27 +49,36 @@ IsReach table returns range places = ((place : ℕ) → Holds places place →
     ComesIn table returns range place) × ((place : ℕ) → ComesIn table returns range place →
     Holds places place)
 
--- the list has what control goes on to from the place too then, and stands as it stood otherwise
+-- the list has what control goes on to from the place too then, and is as it was otherwise
 pub record AddsNext (table : Table) (returns : List Bool) (range : Range) (place : ProgramPoint)
     (before
     after : List ℕ) : Type 0 where
+  -- each next place is in the list then
   pub added : (next : ℕ) → Succeeds table returns range place next → Holds after next
+  -- the old list is its beginning
   pub kept : (at other : ℕ) → slice_get before at ≡ Some other → slice_get after at ≡ Some other
+  -- it has no others
   pub only : (other : ℕ) → Holds after other → Holds before other
       ⊎ Succeeds table returns range place other
 
 -- the same for all of these ways
 pub record AddsAll (ways : List (Option ℕ)) (before after : List ℕ) : Type 0 where
+  -- each of the ways is in the list then
   pub added : (number next : ℕ) → slice_get ways number ≡ Some (Some next) → Holds after next
+  -- the old list is its beginning
   pub kept : (at other : ℕ) → slice_get before at ≡ Some other → slice_get after at ≡ Some other
+  -- it has no others
   pub only : (other : ℕ) → Holds after other → Holds before other ⊎ ((number : ℕ)
       × (slice_get ways number ≡ Some (Some other)))
 
 -- the same for the first of the ways
 pub record AddsSome (ways : List (Option ℕ)) (index : ℕ) (before after : List ℕ) : Type 0 where
+  -- each of the first ways is in the list then
   pub added : (number next : ℕ) → number < index → slice_get ways number ≡ Some (Some next) →
       Holds after next
+  -- the old list is its beginning
   pub kept : (at other : ℕ) → slice_get before at ≡ Some other → slice_get after at ≡ Some other
+  -- it has no others
   pub only : (other : ℕ) → Holds after other → Holds before other ⊎ ((number : ℕ)
       × (slice_get ways number ≡ Some (Some other)))
 
@@ -71,12 +87,16 @@ pub record IsSoFar (table : Table) (returns : List Bool) (range : Range) (places
     List Bool) (at : ℕ) : Type 0 where
   pub marked : IsMarked places marks
   pub size : length marks ≡ length table.places
+  -- the range's start is among the places
   pub begun : (start : ℕ) → slice_get table.starts range.entry ≡ Some start → Holds places start
+  -- the level comes to each of the places
   pub sound : (place : ℕ) → Holds places place → ComesIn table returns range place
+  -- what follows those that were looked at is among the places
   pub done : (number from : ℕ) (place : ProgramPoint) (next : ℕ) → number < at →
       slice_get places number ≡ Some from → slice_get table.places from ≡ Some place →
       Succeeds table returns range place next → Holds places next
 
+-- each of these places is below the count
 abbrev pub AllPlaces : ℕ → List ℕ → Type 0
 AllPlaces count places = (place : ℕ) → Holds places place → place < count
 
@@ -110,13 +130,18 @@ IsEnded table range places paragraph = (place : ℕ) × Holds places place
 
 -- the list has what the first places do
 pub record GathersCalls (table : Table) (places calls : List ℕ) (index : ℕ) : Type 0 where
+  -- one of the places performs each range of the list
   pub sound : (range : ℕ) → Holds calls range → IsCalled table places range
+  -- what the first places perform is in the list
   pub done : (at place range after : ℕ) → at < index → slice_get places at ≡ Some place →
       slice_get table.places place ≡ Some (Calls range after) → Holds calls range
 
+-- the list has the ends that the first places are, but for the range's return
 pub record GathersEnds (table : Table) (range : Range) (places ends : List ℕ) (index : ℕ) : Type 0
   where
+    -- one of the places is the end of each paragraph of the list
     pub sound : (paragraph : ℕ) → Holds ends paragraph → IsEnded table range places paragraph
+    -- the ends that the first places are, are in the list
     pub done : (at place paragraph : ℕ) → at < index → slice_get places at ≡ Some place →
         slice_get table.places place ≡ Some (Ends paragraph) →
         is_exit range.exit paragraph ≡ false → Holds ends paragraph
@@ -130,7 +155,7 @@ abbrev pub GathersAllEnds : Table → Range → List ℕ → List ℕ → Type 0
 GathersAllEnds table range places ends = (paragraph : ℕ) → Holds ends paragraph
     ↔ IsEnded table range places paragraph
 
--- of each program of which it is a table, the ranges that are said to return do
+-- of each program of which it is a table, the ranges that are marked as returning do return
 abbrev pub SaysSoundly : Table → List Bool → Type 0
 SaysSoundly table returns = (never_first : Chooser → Bool) (program : Program)
     (points : ℕ → Point) → IsTable never_first program table points →

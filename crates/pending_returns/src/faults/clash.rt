@@ -25,7 +25,8 @@ pub struct Clash {
     pub fault: FlowFault,
 }
 
-/// A level that faults on the end of this range, to which calls lead from it.
+/// A level that faults on the end of this range and to which calls lead from it; none where there
+/// is none.
 pub fn clash_below(
     reach: &mut Reach,
     levels: &[RangeFacts],
@@ -52,7 +53,7 @@ pub fn clash_below(
     Ok(None)
 }
 
-/// A level that faults on the end of this range, if it has one, to which calls lead from it.
+/// The same of a range that may have no end, as main.
 pub fn clash_from(
     reach: &mut Reach,
     levels: &[RangeFacts],
@@ -74,7 +75,8 @@ pub fn clash_from(
     }
 }
 
-/// A level that faults on the end of a range, to which calls lead from that one.
+/// A level that faults on the end of some range from which calls lead to it; none where there is
+/// none.
 pub fn clash_of(alloc: Global, levels: &[RangeFacts]) -> Result<Option<Clash>, NoMemory>
     requires known { CallsBelow (length levels.now) levels.now }
     ensures { IfOk result (λ found. MatchOption found (NoClash levels.now)
@@ -91,7 +93,7 @@ pub fn clash_of(alloc: Global, levels: &[RangeFacts]) -> Result<Option<Clash>, N
     Ok(None)
 }
 
-/// A clash in a program that has this summary: exactly where the program is faulty.
+/// A clash in a program that has this summary: there is one exactly where the program is faulty.
 pub fn clash_in(
     alloc: Global,
     program: &Program,

@@ -9,7 +9,7 @@ use crate::RangeFacts;
 use crate::levels::ends_at;
 use cob_tree::FlowFault;
 
-/// Whether the number is one of these.
+/// Whether the number is among these.
 pub fn is_among(numbers: &[u32], number: u32) -> bool
     ensures { IsTrue result ↔ Holds numbers.now number }
 {
@@ -35,7 +35,7 @@ pub fn ends_one(levels: &[RangeFacts], numbers: &[u32], end: u32) -> bool
     false
 }
 
-/// The fault that the level does, where a range that ends there is pending.
+/// The fault that the level comes to, where a range that ends at this paragraph is pending.
 pub fn fault_at(levels: &[RangeFacts], facts: &RangeFacts, end: u32) -> Option<FlowFault>
     requires { AllBelow (length levels.now) facts.now.calls }
     ensures { MatchOption result (IsFine levels.now facts.now end)

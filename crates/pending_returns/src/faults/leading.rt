@@ -9,8 +9,8 @@ use crate::levels::Reach;
 use crate::{RangeFacts, visit_calls};
 use cob_base::NoMemory;
 
-/// Makes these the ranges to which calls lead from this one. What was there before is let go, in
-/// the time that it took to come there. Err where memory is wanted.
+/// Sets `reach` to the ranges to which calls lead from this one. What it had before is removed, in
+/// the time that it took to add. Err where memory runs out.
 pub fn callees_from(reach: &mut Reach, levels: &[RangeFacts], base: u32) -> Result<(), NoMemory>
     requires marked { IsMarked reach.old.places.items reach.old.marks.items }
     requires size { length reach.old.marks.items ≡ length levels.now }

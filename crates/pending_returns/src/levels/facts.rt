@@ -9,7 +9,7 @@ use cob_base::NoMemory;
 use cob_tree::Range;
 use program_points::point_table::{ProgramPoint, Table};
 
-/// Makes these the ranges that the places perform.
+/// Sets `calls` to the ranges that these places perform.
 pub fn calls_of(calls: &mut Reach, table: &Table, places: &[u32]) -> Result<(), NoMemory>
     requires marked { IsMarked calls.old.places.items calls.old.marks.items }
     requires size { length calls.old.marks.items ≡ length table.now.ranges }
@@ -29,7 +29,7 @@ pub fn calls_of(calls: &mut Reach, table: &Table, places: &[u32]) -> Result<(), 
     Ok(())
 }
 
-/// Makes these the paragraphs whose end is one of the places, where the range doesn't return.
+/// Sets `ends` to the paragraphs whose end is among these places and isn't the range's return.
 pub fn ends_of(
     ends: &mut Reach,
     table: &Table,

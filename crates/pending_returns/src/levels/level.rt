@@ -13,8 +13,8 @@ use program_points::point_table::Table;
 use std::alloc::Global;
 
 /// The places that a range's level comes to, the ranges that it performs, and the paragraphs whose
-/// end it passes. One is made for a table and takes what each range's level does in turn, so that a
-/// level costs what it comes to.
+/// end it passes. One is made for a table and is used for each range's level in turn, so that a
+/// level's cost is the number of places that it comes to.
 #[derive(Debug, Drop)]
 pub struct Level {
     pub places: Reach,
@@ -23,7 +23,7 @@ pub struct Level {
 }
 
 impl Level {
-    /// Of no range yet.
+    /// A level of no range yet.
     pub fn new(alloc: Global, table: &Table) -> Result<Level, NoMemory>
         ensures { IfOk result (λ level. FitsTable table.now level) }
     {
@@ -37,7 +37,7 @@ impl Level {
         })
     }
 
-    /// Takes what this range's level does, where these ranges return.
+    /// Sets this to what this range's level does, where these ranges return.
     pub fn take(&mut self, table: &Table, returns: &[bool], range: Range) -> Result<(), NoMemory>
         requires fits { FitsTable table.now self.old }
         requires tidy { IsTidy table.now }

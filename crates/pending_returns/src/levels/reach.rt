@@ -10,7 +10,7 @@ use cob_tree::Range;
 use program_points::point_table::{ProgramPoint, Table};
 use std::alloc::Global;
 
-/// The places that were come to, in the order in which they were, with a mark on each.
+/// The places that were come to, in that order, with a mark on each.
 #[derive(Debug, Drop)]
 pub struct Reach {
     pub places: Vec<u32>,
@@ -18,7 +18,7 @@ pub struct Reach {
 }
 
 impl Reach {
-    /// No place yet, of so many.
+    /// A search of so many places that has come to none yet.
     pub fn new(alloc: Global, count: usize) -> Result<Reach, NoMemory>
         ensures none { IfOk result (λ reach. reach.places.items ≡ []) }
         ensures marked { IfOk result (λ reach. IsMarked reach.places.items reach.marks.items) }
@@ -31,7 +31,7 @@ impl Reach {
         })
     }
 
-    /// No place any more, in the time of those that were there.
+    /// Removes all places, in time proportional to their number.
     pub fn clear(&mut self)
         requires marked { IsMarked self.old.places.items self.old.marks.items }
         ensures none { self.new.places.items ≡ [] }
@@ -45,7 +45,7 @@ impl Reach {
         self.places.clear();
     }
 
-    /// Adds a place, unless it is there.
+    /// Adds a place, unless it has been added.
     pub fn visit(&mut self, place: u32) -> Result<(), NoMemory>
         requires room { place < length self.old.marks.items }
         requires marked { IsMarked self.old.places.items self.old.marks.items }
@@ -60,7 +60,7 @@ impl Reach {
         Ok(())
     }
 
-    /// Adds the places that control goes on to from this one.
+    /// Adds the places to which control goes on from this one.
     pub fn visit_next(
         &mut self,
         table: &Table,
@@ -105,7 +105,7 @@ impl Reach {
         }
     }
 
-    /// Adds the places of all ways that are there.
+    /// Adds the places of all ways that aren't missing.
     pub fn visit_all(&mut self, ways: &[Option<u32>]) -> Result<(), NoMemory>
         requires marked { IsMarked self.old.places.items self.old.marks.items }
         requires below { AllBelow (length self.old.marks.items) ways.now }
@@ -133,8 +133,8 @@ pub fn ends_at(exit: Option<u32>, paragraph: u32) -> bool
     }
 }
 
-/// Makes these the places that the range's level comes to, where these ranges return, in the order
-/// in which they are come to. What was there before is let go. Err where memory is wanted.
+/// Sets `reach` to the places that the range's level comes to, where these ranges return, in the
+/// order in which it comes to them. What it had before is removed. Err where memory runs out.
 pub fn reached(
     reach: &mut Reach,
     table: &Table,

@@ -48,7 +48,7 @@ pub fn comes_back(
     Ok(has_end(table, range, reach.places.as_slice()))
 }
 
-/// Looks at each range that isn't said to return, and says whether one of them does.
+/// Checks each range that isn't known to return, and says whether one of them does.
 pub fn recheck_all(
     reach: &mut Reach,
     table: &Table,
@@ -79,8 +79,8 @@ pub fn recheck_all(
     Ok(more)
 }
 
-/// Which ranges return: those that are found by looking again at what waits, and then, in rounds,
-/// that there are no others.
+/// Which ranges return. First a worklist finds them; then rounds over all ranges make sure that
+/// there are no others.
 pub fn returning_ranges(alloc: Global, table: &Table) -> Result<Vec<bool>, NoMemory>
     requires { IsTidy table.now }
     ensures size { IfOk result (λ returns. length returns.items ≡ length table.now.ranges) }

@@ -1,4 +1,4 @@
-//! Which ranges return, found by looking again at what waits.
+//! Which ranges return, found with a worklist.
 
 ghost use Rattle.std.specs.Prelude.{◌≡◌, length};
 ghost use Rattle.program_points.specs.point_table.Table.{IsTidy};
@@ -10,15 +10,15 @@ use cob_base::NoMemory;
 use program_points::point_table::{ProgramPoint, Table};
 use std::alloc::Global;
 
-/// A range that waits for another one to return, and the number of the next that waits for the
-/// same.
+/// A range that waits for another one to return, and the number of the next waiter for the same
+/// range.
 #[derive(Clone, Copy, Debug)]
 pub struct Waiter {
     pub range: u32,
     pub next: Option<u32>,
 }
 
-/// The ranges to look at, and those that wait: the first for each range.
+/// The ranges to check, and the ranges that wait: for each range its first waiter.
 #[derive(Debug, Drop)]
 pub struct Worklist {
     pub queue: Vec<u32>,
@@ -27,7 +27,7 @@ pub struct Worklist {
 }
 
 impl Worklist {
-    /// All of so many ranges, the last first: PERFORM mostly names later ones.
+    /// A worklist of so many ranges, the last first, since PERFORM mostly names later ones.
     pub fn new(alloc: Global, count: u32) -> Result<Worklist, NoMemory> {
         let mut queue = Vec::new(alloc);
         for number in (0..count).rev() {
@@ -40,7 +40,7 @@ impl Worklist {
         })
     }
 
-    /// A range is looked at again once this one returns.
+    /// Has a range checked again once `called` is found to return.
     pub fn wait(&mut self, range: u32, called: u32) -> Result<(), NoMemory> {
         let number = match u32::try_from(self.waits.len()) {
             Ok(number) => number,
@@ -57,7 +57,7 @@ impl Worklist {
         }
     }
 
-    /// This range returns: what waits for it is to be looked at again.
+    /// Puts on the list what waits for this range, which was found to return.
     pub fn wake(&mut self, called: u32) -> Result<(), NoMemory> {
         let mut next = match self.firsts.get(called as usize) {
             Some(first) => *first,
@@ -80,7 +80,7 @@ impl Worklist {
         Ok(())
     }
 
-    /// The range waits for those that its level performs and that aren't said to return.
+    /// Makes the range wait for those that its level performs and that aren't known to return.
     pub fn wait_all(
         &mut self,
         table: &Table,
@@ -102,7 +102,7 @@ impl Worklist {
     }
 }
 
-/// Says that the range with this number returns, where it does.
+/// Notes that the range with this number returns, where it does; otherwise it waits.
 pub fn update_range(
     reach: &mut Reach,
     table: &Table,
@@ -132,7 +132,7 @@ pub fn update_range(
     }
 }
 
-/// Looks at each range, and again at those that wait for one that comes to return.
+/// Checks each range, and again those that wait for one that is found to return.
 pub fn run_worklist(
     alloc: Global,
     reach: &mut Reach,

@@ -4,6 +4,7 @@ use Rattle.cob_tree.specs.declared.stmt.Stmt.TheVariants as stmts
 use Rattle.procedure_parse.specs.declared.drafts.made.DraftParts.{DraftParts}
 use Rattle.procedure_parse.specs.declared.drafts.made.DraftParts.TheVariants as drafts
 
+-- the statement of a draft
 abbrev pub stmt_of : DraftParts → Stmt
 stmt_of (drafts.Arith calc into arms) = stmts.Arith calc into arms
 stmt_of (drafts.Read file into arms) = stmts.Read file into arms

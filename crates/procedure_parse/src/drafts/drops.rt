@@ -1,5 +1,5 @@
-//! What is read of a program is let go by calls: a check opens a tree where one goes by itself, and
-//! again in each crate where one does.
+//! What is read of a program is dropped by these calls: an implicit drop is checked with the drops
+//! of all types in the tree, in each function that has one; that of a call only once.
 
 use cob_base::{Boxed, Items};
 use cob_tree::{
@@ -7,38 +7,38 @@ use cob_tree::{
 };
 use cobol_grammar::stmt_forms::Outline;
 
-/// Lets statements go.
+/// Drops statements.
 pub fn drop_stmts(_stmts: Items<Stmt>) {}
 
-/// Lets the statements of an arm go.
+/// Drops the statements of an arm.
 pub fn drop_arm(_stmts: Option<Items<Stmt>>) {}
 
-/// Lets go what is worked out, and where it goes.
+/// Drops what is computed, and where the result goes.
 pub fn drop_work(_calc: Boxed<Calc>, _into: Items<Target>) {}
 
-/// Lets a place go.
+/// Drops a place.
 pub fn drop_place(_place: Option<Boxed<Place>>) {}
 
-/// Lets a condition go.
+/// Drops a condition.
 pub fn drop_cond(_cond: Boxed<Cond>) {}
 
-/// Lets the subject of EVALUATE go.
+/// Drops the subject of EVALUATE.
 pub fn drop_subject(_subject: Boxed<Subject>) {}
 
-/// Lets the tests of a WHEN go.
+/// Drops the tests of a WHEN.
 pub fn drop_tests(_tests: Items<Test>) {}
 
-/// Lets WHENs go.
+/// Drops WHENs.
 pub fn drop_whens(_whens: Items<When>) {}
 
-/// Lets go what a PERFORM is controlled by.
+/// Drops the control of a PERFORM.
 pub fn drop_control(_control: Boxed<Control>) {}
 
-/// Lets sentences go.
+/// Drops sentences.
 pub fn drop_sentences(_sentences: Items<Sentence>) {}
 
-/// Lets paragraphs go.
+/// Drops paragraphs.
 pub fn drop_paragraphs(_paragraphs: Items<Paragraph>) {}
 
-/// Lets go what is read of a division so far.
+/// Drops what is read of a division so far.
 pub fn drop_outline(_state: Outline) {}

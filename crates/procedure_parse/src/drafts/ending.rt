@@ -1,10 +1,11 @@
-//! Steps that let go what was found where they fail.
+//! Steps that drop what was found where they fail.
 //!
-//! The first is generic, so that a check opens no tree at its exits.
+//! The first is generic, so that its drops are checked without those of the types in a tree.
 
 ghost use Rattle.parser_combinators.specs.Reading.{Reads};
 ghost use Rattle.procedure_parse.specs.drafts.Step as steps;
 
+use crate::drafts::found_stmts::FoundStmts;
 use crate::drafts::made::Draft;
 use cob_base::Items;
 use cob_tree::Stmt;
@@ -30,7 +31,7 @@ fn ended<T: Drop>(
     }
 }
 
-/// The word that ends a statement, unless NOT was read.
+/// Takes the word that ends a statement, unless NOT was read.
 pub fn draft_ended(
     cursor: &mut Cursor<'_>,
     word: &[u8],
@@ -43,20 +44,23 @@ pub fn draft_ended(
     ended(cursor, word, found, pending_not)
 }
 
-/// The same, where the statement stands among others already.
+/// The same, where the statement has been added to others already.
 pub fn stmts_ended(
     cursor: &mut Cursor<'_>,
     word: &[u8],
     found: Items<Stmt>,
     pending_not: bool,
-) -> Result<(Items<Stmt>, bool), Unread>
+) -> Result<FoundStmts, Unread>
     ensures { Reads ((steps.ended word.now found pending_not).reads cursor.old)
         result cursor.new }
 {
-    ended(cursor, word, found, pending_not)
+    match ended(cursor, word, found, pending_not) {
+        Ok((stmts, pending_not)) => Ok(FoundStmts { stmts, pending_not }),
+        Err(stop) => Err(stop),
+    }
 }
 
-/// The word that ends arithmetic, unless NOT was read.
+/// Takes the word that ends arithmetic, unless NOT was read.
 pub fn work_ended(
     cursor: &mut Cursor<'_>,
     verb: ArithmeticVerb,

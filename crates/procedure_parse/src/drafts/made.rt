@@ -1,7 +1,8 @@
-//! What a statement is made of, in boxes.
+//! The parts of a statement, in boxes.
 //!
-//! A frame of a call that reads what is held lasts as long as that is read. So what stands before
-//! it waits in a box, and the statement is made in a call that is over before the next begins.
+//! The stack frame of a call that reads held statements lasts as long as these are read. So what
+//! comes before them is kept in a box, and the statement is made in a call that is over before the
+//! next begins.
 
 ghost use Rattle.std.specs.Prelude.{◌≡◌, [], ◌∷◌, ◌++◌};
 ghost use Rattle.cob_base.specs.Answers.{Makes};
@@ -13,6 +14,7 @@ ghost use Rattle.cobol_grammar.specs.stmt_forms.Loop as loops;
 ghost use Rattle.cobol_grammar.specs.stmt_forms.Stmt as all;
 ghost use Rattle.procedure_parse.specs.drafts.Step as steps;
 
+use crate::drafts::found_stmts::FoundStmts;
 use cob_base::{Boxed, Items, NoMemory};
 use cob_tree::{Arms, Calc, Cond, Control, Place, Stmt, Subject, Target, When};
 use cobol_grammar::part_readers::{Parts, pushed};
@@ -31,12 +33,12 @@ pub type BoxedWork = (ArithmeticVerb, (Boxed<Calc>, Items<Target>));
 /// PERFORM up to what it holds, if it holds statements.
 #[derive(Drop)]
 pub enum Begun {
-    /// A whole statement, and whether a NOT was read behind it that isn't its own.
+    /// A whole statement, and whether a NOT was read after it that isn't its own.
     Whole(Draft, bool),
     Inline(Boxed<Control>),
 }
 
-/// What a statement is made of. What is large of it stands in a box.
+/// The parts of a statement. The large ones are in boxes.
 #[derive(Drop)]
 pub enum DraftParts {
     Arith(Boxed<Calc>, Items<Target>, Arms),
@@ -77,6 +79,7 @@ impl Model for Draft {
 }
 
 impl Draft {
+    /// The draft of an arithmetic statement.
     pub fn arith(calc: Boxed<Calc>, into: Items<Target>, arms: Arms) -> Draft
         ensures { result ≡ stmts.Arith calc into arms }
     {
@@ -85,6 +88,7 @@ impl Draft {
         }
     }
 
+    /// The draft of READ.
     pub fn read(file: u32, into: Option<Boxed<Place>>, arms: Arms) -> Draft
         ensures { result ≡ stmts.Read file into arms }
     {
@@ -93,6 +97,7 @@ impl Draft {
         }
     }
 
+    /// The draft of IF.
     pub fn choice(cond: Boxed<Cond>, yes: Items<Stmt>, no: Items<Stmt>) -> Draft
         ensures { result ≡ stmts.If cond yes no }
     {
@@ -101,6 +106,7 @@ impl Draft {
         }
     }
 
+    /// The draft of EVALUATE.
     pub fn evaluate(
         subject: Boxed<Subject>,
         whens: Items<When>,
@@ -113,6 +119,7 @@ impl Draft {
         }
     }
 
+    /// The draft of an inline PERFORM.
     pub fn held_loop(control: Boxed<Control>, body: Items<Stmt>) -> Draft
         ensures { result ≡ stmts.Loop control body }
     {
@@ -172,14 +179,14 @@ impl Draft {
     }
 }
 
-/// One more statement.
+/// The statements with one more, made from its draft.
 pub fn added(found: Items<Stmt>, draft: Draft) -> Result<Items<Stmt>, NoMemory>
     ensures { Makes (found ++ draft ∷ []) result }
 {
     pushed(found, draft.into_stmt())
 }
 
-/// Arithmetic up to its arms.
+/// Reads arithmetic up to its arms.
 pub fn begin_arithmetic<P: Parts>(
     parts: &P,
     alloc: Global,
@@ -208,7 +215,7 @@ pub fn boxed_place(alloc: Global, into: Option<Place>) -> Result<Option<Boxed<Pl
     }
 }
 
-/// READ without arms, and NEXT SENTENCE behind it.
+/// Adds a READ without arms, and NEXT SENTENCE after it.
 pub fn read_and_next(found: Items<Stmt>, file: u32) -> Result<Items<Stmt>, NoMemory>
     ensures { Makes (arms.read_and_next found file) result }
 {
@@ -220,7 +227,7 @@ pub fn read_and_next(found: Items<Stmt>, file: u32) -> Result<Items<Stmt>, NoMem
     added(found, Draft::next_sentence())
 }
 
-/// IF up to its statements.
+/// Reads IF up to its statements.
 pub fn begin_if<P: Parts>(
     parts: &P,
     alloc: Global,
@@ -234,7 +241,7 @@ pub fn begin_if<P: Parts>(
     Ok(Boxed::new(alloc, cond)?)
 }
 
-/// EVALUATE and its subject.
+/// Reads EVALUATE and its subject.
 pub fn begin_evaluate<P: Parts>(
     parts: &P,
     alloc: Global,
@@ -270,7 +277,7 @@ fn boxed_head(alloc: Global, head: PerformHead) -> Result<Begun, NoMemory>
     }
 }
 
-/// PERFORM up to the statements that it holds.
+/// Reads PERFORM up to the statements that it holds.
 pub fn begin_perform<P: Parts>(
     parts: &P,
     alloc: Global,
@@ -285,7 +292,7 @@ pub fn begin_perform<P: Parts>(
     Ok(boxed_head(alloc, head)?)
 }
 
-/// The end of an inline PERFORM.
+/// Takes the end of an inline PERFORM.
 #[tactic(auto, unfolding(cobol_grammar::specs::stmt_forms::Loop::loop_closed))]
 pub fn loop_closed(
     cursor: &mut Cursor<'_>,
@@ -304,17 +311,20 @@ pub fn loop_closed(
     }
 }
 
-/// A statement that holds no other, behind those that were found.
+/// Reads a statement that holds no other, and adds it to those that were found.
 pub fn simple<P: Parts>(
     parts: &P,
     alloc: Global,
     cursor: &mut Cursor<'_>,
     scope: Scope,
     found: Items<Stmt>,
-) -> Result<(Items<Stmt>, bool), Unread>
+) -> Result<FoundStmts, Unread>
     ensures { Reads ((steps.simple (P.parts parts.now) scope found).reads cursor.old)
         result cursor.new }
 {
-    let found = simple_stmts(parts, alloc, cursor, scope, found)?;
-    Ok((found, false))
+    let stmts = simple_stmts(parts, alloc, cursor, scope, found)?;
+    Ok(FoundStmts {
+        stmts,
+        pending_not: false,
+    })
 }

@@ -8,10 +8,10 @@ ghost use Rattle.cobol_grammar.specs.stmt_forms.Stmt as all;
 ghost use Rattle.procedure_parse.specs.drafts.Step as steps;
 
 use crate::drafts::{
-    Begun, Draft, added, begin_arithmetic, begin_evaluate, begin_if, begin_perform, boxed_place,
-    draft_ended, drop_arm, drop_cond, drop_control, drop_place, drop_stmts, drop_subject,
-    drop_tests, drop_whens, drop_work, loop_closed, read_and_next, simple, stmts_ended, when_added,
-    work_ended,
+    Begun, Draft, FoundStmts, added, begin_arithmetic, begin_evaluate, begin_if, begin_perform,
+    boxed_place, draft_ended, drop_arm, drop_cond, drop_control, drop_place, drop_stmts,
+    drop_subject, drop_tests, drop_whens, drop_work, loop_closed, read_and_next, simple,
+    stmts_ended, when_added, work_ended,
 };
 use cob_base::{Boxed, Items};
 use cob_tree::{Arms, Cond, Control, Place, Stmt, Subject, Test, When};
@@ -21,7 +21,7 @@ use parser_combinators::{Cursor, Unread, Why};
 use std::alloc::Global;
 use stmt_head_parse::heads::{first_phrase, first_tests, not_phrase, read_head, when_head};
 
-/// Where a statement stands, for what is read in it.
+/// What surrounds a statement, for what is read in it.
 #[derive(Clone, Copy)]
 pub struct StmtContext {
     pub alloc: Global,
@@ -30,13 +30,13 @@ pub struct StmtContext {
     pub levels: u32,
 }
 
-/// The statements that a statement holds.
+/// Reads the statements that a statement holds.
 #[cycle(stmt)]
 fn held<P: Parts>(
     parts: &P,
     cursor: &mut Cursor<'_>,
     context: StmtContext,
-) -> Result<(Items<Stmt>, bool), Unread>
+) -> Result<FoundStmts, Unread>
     ensures { Reads ((all.held (P.parts parts.now) context.levels context.scope).reads cursor.old)
         result cursor.new }
 {
@@ -61,8 +61,8 @@ fn held_arm<P: Parts>(
         (all.level (P.parts parts.now) context.levels) context.scope).reads cursor.old)
         result cursor.new }
 {
-    let (found, pending_not) = held(parts, cursor, context)?;
-    Ok((Some(found), pending_not))
+    let FoundStmts { stmts, pending_not } = held(parts, cursor, context)?;
+    Ok((Some(stmts), pending_not))
 }
 
 #[cycle(stmt)]
@@ -186,7 +186,7 @@ fn read_arms<P: Parts>(
     found: Items<Stmt>,
     file: u32,
     into: Option<Boxed<Place>>,
-) -> Result<(Items<Stmt>, bool), Unread>
+) -> Result<FoundStmts, Unread>
     ensures { Reads
         ((arms.read_arms
         (all.level (P.parts parts.now) context.levels)
@@ -214,7 +214,7 @@ fn read_by<P: Parts>(
     context: StmtContext,
     found: Items<Stmt>,
     head: ReadHead,
-) -> Result<(Items<Stmt>, bool), Unread>
+) -> Result<FoundStmts, Unread>
     ensures { Reads
         ((arms.read_by
         (all.level (P.parts parts.now) context.levels) context.scope found head).reads cursor.old)
@@ -222,8 +222,11 @@ fn read_by<P: Parts>(
 {
     match head {
         ReadHead::WithSentence(file) => {
-            let found = read_and_next(found, file)?;
-            Ok((found, false))
+            let stmts = read_and_next(found, file)?;
+            Ok(FoundStmts {
+                stmts,
+                pending_not: false,
+            })
         }
         ReadHead::Open { file, into } => match boxed_place(context.alloc, into) {
             Ok(into) => read_arms(parts, cursor, context, found, file, into),
@@ -242,7 +245,7 @@ fn read_stmt<P: Parts>(
     cursor: &mut Cursor<'_>,
     context: StmtContext,
     found: Items<Stmt>,
-) -> Result<(Items<Stmt>, bool), Unread>
+) -> Result<FoundStmts, Unread>
     ensures { Reads
         ((arms.read_stmt (P.parts parts.now)
         (all.level (P.parts parts.now) context.levels) context.scope found).reads cursor.old)
@@ -263,7 +266,7 @@ fn else_part<P: Parts>(
     parts: &P,
     cursor: &mut Cursor<'_>,
     context: StmtContext,
-) -> Result<(Items<Stmt>, bool), Unread>
+) -> Result<FoundStmts, Unread>
     ensures { Reads
         ((choice.else_part
         (all.level (P.parts parts.now) context.levels) context.scope).reads cursor.old)
@@ -273,7 +276,10 @@ fn else_part<P: Parts>(
         cursor.key(b"ELSE")?;
         held(parts, cursor, context)
     } else {
-        Ok((Items::new(context.alloc), false))
+        Ok(FoundStmts {
+            stmts: Items::new(context.alloc),
+            pending_not: false,
+        })
     }
 }
 
@@ -292,8 +298,8 @@ fn if_ended<P: Parts>(
         result cursor.new }
 {
     match else_part(parts, cursor, context) {
-        Ok((no, pending_not)) => {
-            let draft = Draft::choice(cond, yes, no);
+        Ok(FoundStmts { stmts, pending_not }) => {
+            let draft = Draft::choice(cond, yes, stmts);
             draft_ended(cursor, b"END-IF", draft, pending_not)
         }
         Err(stop) => {
@@ -311,19 +317,19 @@ fn if_behind<P: Parts>(
     cursor: &mut Cursor<'_>,
     context: StmtContext,
     cond: Boxed<Cond>,
-    first: (Items<Stmt>, bool),
+    first: FoundStmts,
 ) -> Result<(Draft, bool), Unread>
     ensures { Reads
         ((choice.if_behind
         (all.level (P.parts parts.now) context.levels) context.scope cond first).reads cursor.old)
         result cursor.new }
 {
-    let (yes, pending_not) = first;
+    let FoundStmts { stmts, pending_not } = first;
     if pending_not {
-        let no = Items::new(context.alloc);
-        Ok((Draft::choice(cond, yes, no), true))
+        let none = Items::new(context.alloc);
+        Ok((Draft::choice(cond, stmts, none), true))
     } else {
-        if_ended(parts, cursor, context, cond, yes)
+        if_ended(parts, cursor, context, cond, stmts)
     }
 }
 
@@ -364,7 +370,7 @@ fn when_held<P: Parts>(
         result cursor.new }
 {
     match held(parts, cursor, context) {
-        Ok((stmts, pending_not)) => Ok(Whens {
+        Ok(FoundStmts { stmts, pending_not }) => Ok(Whens {
             whens: when_added(whens, When { tests, stmts })?,
             other: false,
             pending_not,
@@ -604,13 +610,13 @@ fn loop_body<P: Parts>(
         in_section: context.scope.in_section,
     };
     match held(parts, cursor, StmtContext { scope, ..context }) {
-        Ok((body, pending_not)) => {
+        Ok(FoundStmts { stmts, pending_not }) => {
             if pending_not {
                 drop_control(control);
-                drop_stmts(body);
+                drop_stmts(stmts);
                 Err(Unread::Stop(Why::Syntax))
             } else {
-                loop_closed(cursor, control, body)
+                loop_closed(cursor, control, stmts)
             }
         }
         Err(stop) => {
@@ -638,8 +644,8 @@ fn perform_from<P: Parts>(
     }
 }
 
-// PERFORM is read by two calls here, without one between: Rattle's own compiler builds the first
-// calls of a function into it, up to a size, and the frame of a head would be held with them.
+// PERFORM is read by two calls here, without one between: Rattle's compiler inlines the first calls
+// of a function, up to a size, and the frame of a head would then be kept with them.
 #[cycle(stmt)]
 #[tactic(auto, using(crate::proofs::statements_lemmas::Begun::holding_read), unfolding(cobol_grammar::specs::stmt_forms::Stmt::holding_stmt))]
 fn holding_stmt<P: Parts>(
@@ -669,7 +675,7 @@ fn held_stmts<P: Parts>(
     cursor: &mut Cursor<'_>,
     context: StmtContext,
     found: Items<Stmt>,
-) -> Result<(Items<Stmt>, bool), Unread>
+) -> Result<FoundStmts, Unread>
     ensures { Reads
         ((all.held_stmts (P.parts parts.now)
         (all.level (P.parts parts.now) context.levels) context.scope found).reads cursor.old)
@@ -679,7 +685,10 @@ fn held_stmts<P: Parts>(
         read_stmt(parts, cursor, context, found)
     } else {
         match holding_stmt(parts, cursor, context) {
-            Ok((draft, pending_not)) => Ok((added(found, draft)?, pending_not)),
+            Ok((draft, pending_not)) => Ok(FoundStmts {
+                stmts: added(found, draft)?,
+                pending_not,
+            }),
             Err(stop) => {
                 drop_stmts(found);
                 Err(stop)
@@ -694,14 +703,14 @@ fn stmts_turn<P: Parts>(
     parts: &P,
     cursor: &mut Cursor<'_>,
     context: StmtContext,
-    found: (Items<Stmt>, bool),
-) -> Result<(Items<Stmt>, bool), Unread>
+    found: FoundStmts,
+) -> Result<FoundStmts, Unread>
     ensures { Reads
         ((all.stmts_turn (P.parts parts.now)
         (all.level (P.parts parts.now) context.levels) context.scope found).reads cursor.old)
         result cursor.new }
 {
-    let (stmts, pending_not) = found;
+    let FoundStmts { stmts, pending_not } = found;
     if pending_not {
         drop_stmts(stmts);
         Err(Unread::Stop(Why::Syntax))
@@ -712,14 +721,14 @@ fn stmts_turn<P: Parts>(
     }
 }
 
-/// As many statements as there are, behind those that were found.
+/// Reads as many statements as there are, and adds them to those that were found.
 #[cycle(stmt)]
 pub fn stmts_from<P: Parts>(
     parts: &P,
     cursor: &mut Cursor<'_>,
     context: StmtContext,
-    mut found: (Items<Stmt>, bool),
-) -> Result<(Items<Stmt>, bool), Unread>
+    mut found: FoundStmts,
+) -> Result<FoundStmts, Unread>
     ensures { Reads
         ((all.stmts_from (P.parts parts.now)
         (all.level (P.parts parts.now) context.levels) context.scope found).reads cursor.old)
@@ -731,14 +740,14 @@ pub fn stmts_from<P: Parts>(
     Ok(found)
 }
 
-/// Statements, one or more.
+/// Reads one or more statements.
 #[cycle(stmt)]
 #[tactic(auto, unfolding(cobol_grammar::specs::stmt_forms::Stmt::stmt, cobol_grammar::specs::stmt_forms::Stmt::stmts_with))]
 pub fn stmts_with<P: Parts>(
     parts: &P,
     cursor: &mut Cursor<'_>,
     context: StmtContext,
-) -> Result<(Items<Stmt>, bool), Unread>
+) -> Result<FoundStmts, Unread>
     ensures { Reads
         ((all.stmts_with (P.parts parts.now)
         (all.level (P.parts parts.now) context.levels) context.scope).reads cursor.old)

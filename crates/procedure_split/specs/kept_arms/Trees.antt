@@ -6,6 +6,7 @@ use Rattle.branch_tree.specs.Graph.{seen_graph}
 use Rattle.branch_tree.specs.declared.graph.Graph as code
 use Rattle.procedure_split.specs.split_depth.Arms.{StmtsHaveArms}
 
+-- there is a tree
 abbrev pub SomeTree : Trees → Type 0
 SomeTree no_more = ⊥
 SomeTree (more first others) = Unit {0}
@@ -15,6 +16,7 @@ abbrev mutual
   pub TreeHasArms : Tree → Type 0
   TreeHasArms (tree body end) = StmtsHaveArms body × EndHasArms end
 
+  -- each choice in an end has its arms
   pub EndHasArms : End → Type 0
   EndHasArms (Pick picker arms) = SomeTree arms × TreesHaveArms arms
   EndHasArms (Jump to) = Unit {0}
@@ -22,10 +24,12 @@ abbrev mutual
   EndHasArms Stop = Unit {0}
   EndHasArms Dead = Unit {0}
 
+  -- the same of these trees
   pub TreesHaveArms : Trees → Type 0
   TreesHaveArms no_more = Unit {0}
   TreesHaveArms (more first others) = TreeHasArms first × TreesHaveArms others
 
+-- the same of the tree of each node
 abbrev pub NodesHaveArms : List Node → Type 0
 NodesHaveArms [] = Unit {0}
 NodesHaveArms (node ∷ nodes) = TreeHasArms node.tree × NodesHaveArms nodes

@@ -21,19 +21,29 @@ use Rattle.procedure_split.specs.made_procedures.Made.{AreAsMany, ArePlacesIn, A
 -- and the paragraphs that are made of these
 pub record AreMade (program result : Program) (writing : Writing) : Type 0 where
   pub summary : Summary
+  -- the program has this flow, without a fault
   pub flow : HasFlow program summary
   pub order : List Range
+  -- the summary gives the order, and which ranges return
   pub by : IsPlanOf summary.ranges writing.returning order
   pub graphs : List Graph
+  -- these are the graphs of the plan
   pub planned : IsPlannedWith program writing.returning order graphs writing.plan
+  -- what the graphs are shaped to
   pub closed : List Closed
+  -- each graph is shaped so
   pub shaped : AllShaped graphs closed
+  -- what becomes of empty arms, by the table of cells
   pub empty : writing.empty ≡ empties writing.table
+  -- for each range the items of its cells
   pub cells : List (List CellItem)
+  -- each cell has its item
   pub items : HaveItems program writing order cells
   pub places : List ProcedurePlace
+  -- each range has its place
   pub placed : ArePlacesIn order places
   pub names : List (List ℕ)
+  -- there are as many of each as ranges
   pub many : AreAsMany order closed cells names
   pub paragraphs : AreParagraphsOf order closed cells places names result.paragraphs
 

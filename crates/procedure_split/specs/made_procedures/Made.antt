@@ -24,9 +24,12 @@ use Rattle.procedure_split.specs.declared.shaped_ranges.shaping.Closed.{Closed}
 pub record IsParagraphOf (cells : List CellItem) (places : List ProcedurePlace) (main : Bool)
     (whole : Tree) (name : List ℕ) (made : Paragraph) : Type 0 where
   pub named : made.name ≡ Some name
+  -- it is in no section
   pub bare : made.section ≡ None
   pub sentence : Sentence
+  -- it has one sentence
   pub alone : made.sentences ≡ sentence ∷ []
+  -- which is all that the procedure holds
   pub is : IsProcedure cells places main whole sentence
 
 -- one for each range, with its name and the items of its cells
@@ -34,6 +37,7 @@ pub record AreParagraphsOf (order : List Range) (closed : List Closed)
     (cells : List (List CellItem)) (places : List ProcedurePlace) (names : List (List ℕ))
     (paragraphs : List Paragraph) : Type 0 where
   pub count : length paragraphs ≡ length order
+  -- each paragraph is that of its range
   pub each : (at : ℕ) (range : Range) (one : Closed) (own : List CellItem) (name : List ℕ)
       (made : Paragraph) → slice_get order at ≡ Some range → slice_get closed at ≡ Some one →
       slice_get cells at ≡ Some own → slice_get names at ≡ Some name →

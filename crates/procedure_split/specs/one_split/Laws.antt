@@ -11,13 +11,17 @@ use Rattle.pending_returns.specs.FaultFree.{IsFaultFree}
 
 -- by two summaries of one flow: one structured program, one limit, or a program and no limit
 pub record IsSplitOnce (program : Program) (one other : Summary) : Type 0 where
+  -- both split it into one program
   pub made : (first second : Split) → IsSplitWith program one first →
       IsSplitWith program other second → first ≡ second
+  -- both pass one limit
   pub limit : (first second : Limit) → IsSplitFault program one (fault.Limit first) →
       IsSplitFault program other (fault.Limit second) → first ≡ second
+  -- where one splits it, the other passes no limit
   pub within : (made : Program) (limit : Limit) → IsSplit program one made →
       IsSplitFault program other (fault.Limit limit) → ⊥
 
+-- a program is split alike by any two summaries of its flow
 abbrev pub SplitsAreOne : Type 0
 SplitsAreOne = (program : Program) (one other : Summary) → IsWellMade program →
     IsFaultFree program one → IsFaultFree program other → IsSplitOnce program one other

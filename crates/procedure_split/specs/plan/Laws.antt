@@ -23,35 +23,42 @@ use Rattle.pending_returns.specs.declared.facts.Summary.{Summary}
 use Rattle.pending_returns.specs.Summary.{IsSummary}
 use Rattle.procedure_split.specs.plan.Planned.{IsPlanOf}
 
--- the range of the theory
+-- the range from an entry to an exit, as the theory has it; without an exit it is main
 abbrev pub ending_at : ℕ → Option ℕ → Range
 ending_at entry None = Main
 ending_at entry (Some exit) = Part entry exit
 
+-- a range as the theory has it
 abbrev pub as_control : tree.Range → Range
 as_control range = ending_at range.entry range.exit
 
--- the ranges that stand behind main
+-- the ranges that follow main
 abbrev pub others_of : List tree.Range → List Range
 others_of order = map as_control (drop 1 order)
 
 -- what a plan is by flow paths: main first, each range but main performed by a path of an earlier
--- one's level, none twice, and each that is performed in a range's level behind it; the table names
+-- one's level, none twice, and each that is performed in a range's level after it; the table names
 -- the ranges that are entered and return, and none that doesn't return
 pub record IsPlannedByPaths (told : FlowFacts) (program : Program) (returning : List (List ℕ))
     (order : List tree.Range) : Type 0 where
+  -- main comes first
   pub main : map as_control order ≡ Main ∷ others_of order
+  -- each other range is entered by a free flow path
   pub entered : (entry exit : ℕ) → In (Part entry exit) (Main ∷ others_of order) →
       (entry < length program.paragraphs) × IsEntered told program (Part entry exit)
+  -- each range comes after those that perform it, and none twice
   pub later : CallsStandLater told program (Main ∷ others_of order)
+  -- each other range is performed by a path of an earlier one
   pub called : CalledByPaths told program (Main ∷ others_of order)
+  -- the table names each range that is entered and returns
   pub names : (entry exit : ℕ) → IsEntered told program (Part entry exit) →
       FreelyComes told program (Part entry exit) exit [] →
       returns_by returning entry exit ≡ true
+  -- and none that doesn't return
   pub exact : (entry exit : ℕ) → returns_by returning entry exit ≡ true →
       FreelyComes told program (Part entry exit) exit []
 
--- a source that isn't faulty is planned so by its summary, whatever else is told of it
+-- a source that isn't faulty is planned so by its summary, whatever else is known of it
 abbrev pub PlansAreByPaths : Type 0
 PlansAreByPaths =
     (told : FlowFacts) (program : Program) (summary : Summary) (returning : List (List ℕ))
@@ -61,7 +68,7 @@ PlansAreByPaths =
     IsPlannedByPaths told program returning order
 
 -- so a COBOL program that names its own items and paragraphs and isn't faulty: no flow path of the
--- theory faults either, and its plan is one by paths, for what lowering is told of it
+-- theory faults either, and its plan is one by paths, for what lowering knows of it
 abbrev pub CobolPlansAreByPaths : Type 0
 CobolPlansAreByPaths =
     (program : cobol.Program) (summary : Summary) (returning : List (List ℕ))

@@ -14,13 +14,14 @@ lengthened [] (suc entry) = [] ∷ lengthened [] entry
 lengthened (row ∷ table) zero = row ∷ table
 lengthened (row ∷ table) (suc entry) = row ∷ lengthened table entry
 
--- and with this exit in it
+-- the table with this exit in the row of its entry
 abbrev pub with_exit : List (List ℕ) → (entry exit : ℕ) → List (List ℕ)
 with_exit [] zero exit = (exit ∷ []) ∷ []
 with_exit [] (suc entry) exit = [] ∷ with_exit [] entry exit
 with_exit (row ∷ table) zero exit = (row ++ exit ∷ []) ∷ table
 with_exit (row ∷ table) (suc entry) exit = row ∷ with_exit table entry exit
 
+-- the table with a range in it; main has no place there
 abbrev pub with_part : List (List ℕ) → ℕ → Option ℕ → List (List ℕ)
 with_part table entry None = table
 with_part table entry (Some exit) = with_exit table entry exit
@@ -49,6 +50,7 @@ NamesReturning ranges table = (entry exit : ℕ) →
 abbrev pub calls_of : List RangeFacts → List (List ℕ)
 calls_of ranges = map (λ (facts : RangeFacts). facts.calls) ranges
 
+-- the range of these facts, or main where there are none
 abbrev pub or_main : Option RangeFacts → Range
 or_main None = main_range
 or_main (Some facts) = facts.range
@@ -57,9 +59,12 @@ or_main (Some facts) = facts.range
 abbrev pub range_at : List RangeFacts → ℕ → Range
 range_at ranges number = or_main (slice_get ranges number)
 
--- which ranges return, and the order in which they stand
+-- which ranges return, and the order in which they come
 pub record IsPlanOf (ranges : List RangeFacts) (returning : List (List ℕ)) (order : List Range)
     : Type 0 where
+  -- the table is made of these facts
   pub table : returning ≡ table_by ranges
+  -- it names the ranges that return, and no other
   pub names : NamesReturning ranges returning
+  -- the ranges come in this order
   pub stands : order ≡ map (range_at ranges) (order_of (calls_of ranges))

@@ -31,11 +31,12 @@ hello_report = record {
   exits = 4;
 }
 
+-- the lines, each with a line feed
 abbrev pub ended : List (List ℕ) → List ℕ
 ended [] = []
 ended (line ∷ lines) = line ++ line_feed ∷ ended lines
 
--- is told by these lines
+-- the report of HELLO has these lines
 abbrev pub HelloIsTold : Type 0
 HelloIsTold = report_text hello_report
     ≡ ended (codes "PROGRAM HELLO"

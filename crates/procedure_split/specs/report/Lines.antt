@@ -4,19 +4,20 @@ use Rattle.std.specs.Fmt.{decimal}
 use Rattle.cob_base.specs.Bytes.{line_feed}
 use Rattle.procedure_split.specs.declared.report.report.Report.{Report}
 
--- words, and a name behind them
+-- words, and a name after them
 abbrev pub name_line : List ℕ → List ℕ → List ℕ
 name_line words name = words ++ name ++ line_feed ∷ []
 
--- words, and a number behind them
+-- words, and a number after them
 abbrev pub number_line : List ℕ → ℕ → List ℕ
 number_line words number = name_line words (decimal number)
 
--- a paragraph that is dropped, by its label, or by a star where it has none
+-- the line of a paragraph that is dropped, by its label, or by a star where it has none
 abbrev pub dropped_line : Option (List ℕ) → List ℕ
 dropped_line None = name_line (codes "DROPPED ") (codes "*")
 dropped_line (Some label) = name_line (codes "DROPPED ") label
 
+-- the paragraphs that are dropped, a line each
 abbrev pub dropped_lines : List (Option (List ℕ)) → List ℕ
 dropped_lines [] = []
 dropped_lines (label ∷ labels) = dropped_line label ++ dropped_lines labels

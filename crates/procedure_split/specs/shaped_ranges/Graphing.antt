@@ -22,34 +22,40 @@ use Rattle.flow_graph.specs.graph_sizes.Sizing.{graph_size}
 use Rattle.procedure_split.specs.shaped_ranges.Graphs.{HaveGraphs, IsGraphOf, total_size}
 use Rattle.procedure_split.specs.shaped_ranges.Limit.{AreLowered, IsLoweringFault, nodes_passed}
 
--- they begin with paragraphs of the program
+-- the ranges begin with paragraphs of the program
 abbrev pub AreRangesOf : language.Program → List code.Range → Type 0
 AreRangesOf program ranges = (at : ℕ) (range : code.Range) →
     slice_get ranges at ≡ Some range → IsRangeOf program (seen_range range)
 
+-- ranges of a program to which the context and its places belong
 pub record AreRangesIn (context : LoweringContext) (spots : List Continuation) (program : Program)
     (ranges : List code.Range) : Type 0 where
+  -- the context and its places belong to the program
   pub table : IsTableOf context spots program
+  -- the ranges are the program's
   pub own : AreRangesOf (control_of program) ranges
 
+-- the graph is the one of the range, in any program to which the context and its places belong
 abbrev pub IsGraphIn : LoweringContext → List Continuation → code.Range → Graph → Type 0
 IsGraphIn context spots range graph = (program : Program) →
     IsRangeIn context spots range program →
     IsGraphOf (flow_facts_by context) (control_of program) (seen_range range) (seen_graph graph)
 
--- and it is no larger than this; none where it is larger
+-- it is the graph of the range and no larger than this; none where the graph is larger
 abbrev pub IsGraphWithin : LoweringContext → List Continuation → code.Range → (most : ℕ) →
     Option Graph → Type 0
 IsGraphWithin context spots range most (Some graph) =
     IsGraphIn context spots range graph × (graph_size (seen_graph graph) ≤ most)
 IsGraphWithin context spots range most None = IsLargerIn context spots range most
 
+-- the graphs are those of the ranges and within the limit, in any such program
 abbrev pub AreLoweredIn : LoweringContext → List Continuation → List code.Range → List Graph →
     Type 0
 AreLoweredIn context spots ranges graphs = (program : Program) →
     AreRangesIn context spots program ranges →
     AreLowered (flow_facts_by context) (control_of program) ranges graphs
 
+-- the ranges aren't lowered for this reason, in any such program
 abbrev pub IsLoweringFaultIn : LoweringContext → List Continuation → List code.Range → SplitFault →
     Type 0
 IsLoweringFaultIn context spots ranges fault = (program : Program) →
@@ -66,7 +72,7 @@ IsCountedOn context spots ranges others count = (program : Program) →
     × HaveGraphs (flow_facts_by context) (control_of program) ranges graphs
     × (count ≡ min (others + total_size graphs) (2 ^ 64 - 1))
 
--- the limit tells the count, unless it is that last number, or memory was wanted
+-- the limit tells the count, unless it is that last number, or memory ran out
 abbrev pub IsPastBy : Result ℕ NoMemory → SplitFault → Type 0
 IsPastBy counted (fault.Limit limit) = (count : ℕ) × (counted ≡ Ok count)
     × (count < 2 ^ 64 - 1) × (limit ≡ nodes_passed count)

@@ -22,8 +22,11 @@ graph_by told program keep range =
 -- it has exactly the nodes that are reached
 pub record IsGraphOf (told : FlowFacts) (program : Program) (range : Range) (graph : reduced.Graph)
     : Type 0 where
+  -- the nodes that are kept
   pub keep : Label → Bool
+  -- these are exactly the nodes that are reached
   pub just : AreJustReached told program range keep
+  -- the graph has these nodes
   pub is : graph ≡ graph_by told program keep range
 
 -- one for each range
@@ -43,9 +46,10 @@ HaveGraphs told program (range ∷ ranges) [] = ⊥
 HaveGraphs told program (range ∷ ranges) (graph ∷ graphs) =
     IsGraphOf told program (seen_range range) graph × HaveGraphs told program ranges graphs
 
--- the labels and statements of all
+-- how many labels and statements all these graphs have
 abbrev pub total_size : List reduced.Graph → ℕ
 total_size = sum_by graph_size
 
+-- the labels and statements of these graphs
 abbrev pub node_count : List Graph → ℕ
 node_count = sum_by (λ graph. graph_size (seen_graph graph))

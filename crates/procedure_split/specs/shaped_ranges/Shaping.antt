@@ -23,6 +23,7 @@ pub record IsClosedFrom (shaped : Shaped) (closed : Closed) : Type 0 where
   pub tree : seen_tree closed.tree ≡ tree (seen_body shaped.body.items) (seen_end shaped.end)
   pub added : closed.added ≡ shaped.added
 
+-- the list has one more, with what the graph was shaped to
 abbrev pub AddsClosed : Shaped → (old new : List Closed) → Type 0
 AddsClosed shaped old new =
     (closed : Closed) × (new ≡ old ++ closed ∷ []) × IsClosedFrom shaped closed
@@ -33,6 +34,7 @@ pub record IsShapedTo (graph : reduced.Graph) (closed : Closed) : Type 0 where
   pub added : (closed_graph graph).added ≡ map seen_added closed.added.items
   pub within : result_nesting (closed_graph graph) ≤ max_nesting
 
+-- each of these graphs is shaped so
 abbrev pub AllShaped : List Graph → List Closed → Type 0
 AllShaped [] [] = Unit {0}
 AllShaped [] (one ∷ closed) = ⊥
@@ -44,10 +46,12 @@ AllShaped (graph ∷ graphs) (one ∷ closed) =
 pub record IsOneTooDeep (graphs : List Graph) : Type 0 where
   pub at : ℕ
   pub graph : Graph
+  -- one of the graphs
   pub there : slice_get graphs at ≡ Some graph
+  -- what it is shaped to nests deeper than the limit
   pub deep : max_nesting < result_nesting (closed_graph (seen_graph graph))
 
--- why they aren't shaped: one nests deeper than the limit; want of memory may come at any place
+-- why they aren't shaped: one nests deeper than the limit; memory may run out at any place
 abbrev pub IsTooDeep : List Graph → SplitFault → Type 0
 IsTooDeep graphs (fault.Limit limit) = IsOneTooDeep graphs × (limit ≡ nesting_passed)
 IsTooDeep graphs fault.NoMemory = Unit {0}

@@ -14,7 +14,9 @@ use Rattle.procedure_split.specs.Splitting.{IsSplit}
 -- a program as it is read
 pub record IsWellMade (program : Program) : Type 0 where
   pub proper : IsProper program
+  -- it counts by whole numbers
   pub whole : counts_whole program ≡ true
+  -- its entries and lists of names are as they can be written
   pub fit : IsFit program
 
 -- then what it is split into is structured, and behaves as it did over all files
@@ -24,7 +26,7 @@ SplitProgramsBehaveAlike =
     IsWellMade program → IsFaultFree program summary → IsSplit program summary made →
     IsStructured (control_of made) × SameBehaviour program made
 
--- it has a name, and stands in no section
+-- it has a name, and is in no section
 abbrev pub StandsAlone : Paragraph → Type 0
 StandsAlone paragraph = IsSome paragraph.name × (paragraph.section ≡ None)
 

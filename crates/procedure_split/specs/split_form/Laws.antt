@@ -8,6 +8,8 @@ use Rattle.procedure_split.specs.Splitting.{IsSplit}
 use Rattle.procedure_split.specs.split_behaviour.Alike.{IsWellMade}
 use Rattle.pending_returns.specs.FaultFree.{IsFaultFree}
 
+-- a well made program without a fault of flow, in which each EXIT is alone, is split into a
+-- structured one
 abbrev pub SplitProgramsAreStructured : Type 0
 SplitProgramsAreStructured =
     (program made : Program) (summary : Summary) →

@@ -7,10 +7,13 @@ use Rattle.procedure_split.specs.written_depth.Levels.{least_levels}
 
 -- an empty arm that is judged to be left out goes; READ and arithmetic stay what they are
 pub record LeavesOut (naming : Naming) (range : Range) : Type 0 where
+  -- an empty first arm that may be left out goes
   pub first : (picker : Picker) → leaves_out picker true ≡ true →
       naming.empty range picker 0 ≡ Goes
+  -- so does an empty later one
   pub later : (picker : Picker) (arm : ℕ) → leaves_out picker false ≡ true →
       naming.empty range picker (suc arm) ≡ Goes
+  -- what chooses is written with no level more
   pub chooser : (chooser : Chooser) (arms : List Bool) →
       least_levels (By (naming.chooser chooser arms)) ≤ least_levels (By chooser)
 
@@ -25,6 +28,7 @@ MissingFits empty first level (missing others) =
 -- an EVALUATE has an arm, and so have its kind
 module _ (naming : Naming) (range : Range) where
   abbrev mutual
+    -- each choice in a statement is written without a level more than is judged of it
     pub StmtFits : Stmt → Type 0
     StmtFits (Do act) = Unit {0}
     StmtFits (Choose picker arms) =
@@ -41,15 +45,18 @@ module _ (naming : Naming) (range : Range) where
     StmtFits (ExitPerform cycle) = Unit {0}
     StmtFits StopRun = Unit {0}
 
+    -- the same of these statements
     pub StmtsFit : Stmts → Type 0
     StmtsFit none = Unit {0}
     StmtsFit (also first others) = StmtFits first × StmtsFit others
 
+    -- the same of these arms
     pub ArmsFit : Arms → Type 0
     ArmsFit done = Unit {0}
     ArmsFit (given arm others) = StmtsFit arm × ArmsFit others
     ArmsFit (missing others) = ArmsFit others
 
+    -- the same of a loop's body
     pub BodyFits : Body → Type 0
     BodyFits (Nested stmts) = StmtsFit stmts
     BodyFits (Performed entry exit) = Unit {0}

@@ -15,6 +15,7 @@ abbrev pub StatementsNestAsControl : Type 0
 StatementsNestAsControl = (last : ℕ) (list : List stmts.Stmt) →
     stmts_depth list ≡ levels (seen_stmts last list)
 
+-- a program nests as deep as its control
 abbrev pub ProgramsNestAsControl : Type 0
 ProgramsNestAsControl = (program : trees.Program) →
     program_depth program ≡ program_levels (control_of program)
@@ -27,10 +28,13 @@ WrittenBodiesNestAsJudged = (naming : Naming) (place : Range → ℕ) (range : R
 
 -- each procedure has a body that is written without a level more, and is judged to nest so deep
 pub record NestsWithin (naming : Naming) (limit : ℕ) (procedure : Procedure) : Type 0 where
+  -- empty arms go where they are judged to
   pub leaves : LeavesOut naming procedure.range
+  -- each choice is written without a level more than is judged
   pub fits : StmtsFit naming procedure.range procedure.body
   pub within : nesting procedure.body ≤ limit
 
+-- each of these procedures does
 abbrev pub AllNestWithin : Naming → ℕ → List Procedure → Type 0
 AllNestWithin naming limit procedures = (at : ℕ) (procedure : Procedure) →
     slice_get procedures at ≡ Some procedure → NestsWithin naming limit procedure

@@ -11,12 +11,12 @@ use out_names::order;
 use pending_returns::{RangeFacts, Summary, number_of};
 use std::alloc::Global;
 
-/// Which ranges return, and in which order they stand.
+/// Which ranges return, and the order of their procedures.
 #[derive(Debug, Drop)]
 pub struct RangePlan {
     /// For each entry the exits of the ranges that return.
     pub returning: Items<Items<u32>>,
-    /// Main, and the ranges that are performed from it on.
+    /// Main, and the ranges that are performed from it on, directly or not.
     pub order: Items<Range>,
 }
 
@@ -59,8 +59,8 @@ pub fn ranges_by(
     Ok(made)
 }
 
-/// The plan of a program that has this summary. Err where memory is wanted, or the ranges have no
-/// numbers of 32 bits.
+/// The plan of a program that has this summary. Err where memory runs out, or there are more ranges
+/// than 32 bits number.
 pub fn plan_of(alloc: Global, summary: &Summary) -> Result<RangePlan, NoMemory>
     ensures { IfOk result (λ plan. IsPlanOf summary.now.ranges plan.returning plan.order) }
 {

@@ -9,7 +9,7 @@ use crate::report::report::Report;
 use cob_base::{NoMemory, Text, Word};
 use std::alloc::Global;
 
-/// Adds the line of a name.
+/// Adds a line with a name.
 fn add_name(text: &mut Text, words: &[u8], name: &[u8]) -> Result<(), NoMemory>
     ensures { OnOk result (text.new ≡ text.old ++ name_line words.now name.now) }
 {
@@ -18,7 +18,7 @@ fn add_name(text: &mut Text, words: &[u8], name: &[u8]) -> Result<(), NoMemory>
     text.add(b"\n")
 }
 
-/// Adds the line of a number.
+/// Adds a line with a number.
 fn add_number(alloc: Global, text: &mut Text, words: &[u8], number: usize) -> Result<(), NoMemory>
     ensures { OnOk result (text.new ≡ text.old ++ number_line words.now number) }
 {

@@ -1,4 +1,4 @@
-//! What the report of a program tells.
+//! What the report of a program says.
 
 ghost use Rattle.std.specs.Prelude.{map, IfOk};
 ghost use Rattle.cob_base.specs.Answers.{Makes};
@@ -22,15 +22,15 @@ pub struct AddedCounts {
     pub exits: u32,
 }
 
-/// What is told of a program that is restructured.
+/// The report of a restructured program.
 #[derive(Debug, Drop)]
 pub struct Report {
     pub name: Word,
     pub paragraphs: u32,
-    /// Those that some flow path performs, main included.
+    /// How many ranges some flow path performs, main included.
     pub ranges: u32,
-    /// The labels of the paragraphs to which no flow path comes, in their order; one that has
-    /// neither a name nor begins a section has none.
+    /// The labels of the paragraphs to which no flow path comes, in their order; one that neither
+    /// has a name nor begins a section has no label.
     pub dropped: Items<Option<Word>>,
     pub never: u32,
     pub flags: u32,

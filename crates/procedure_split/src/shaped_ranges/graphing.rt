@@ -30,7 +30,7 @@ use statement_lowering::LoweringContext;
 use statement_lowering::continuations::{Continuation, continuations_of};
 use std::alloc::Global;
 
-/// Labels have numbers below three times this.
+/// How many places a program may have: labels have numbers below three times this.
 const PLACES: u64 = 1 << 30;
 
 fn nodes_passed(counted: u64) -> Limit
@@ -87,7 +87,7 @@ fn keep_graph(graphs: &mut Vec<Graph>, graph: Graph) -> Result<(), NoMemory>
     }
 }
 
-/// How many labels and statements the graphs of ranges have, with so many others.
+/// How many labels and statements the graphs of ranges have, added to a count.
 fn counted_on(
     alloc: Global,
     reach: &mut Reach,
@@ -111,7 +111,7 @@ fn counted_on(
     Ok(count)
 }
 
-/// The limit that ranges pass whose graphs have so many labels and statements.
+/// The limit that a count of labels and statements passes, or out of memory.
 fn past_limit(counted: Result<u64, NoMemory>) -> SplitFault
     ensures { IsPastBy counted result }
 {
@@ -122,8 +122,8 @@ fn past_limit(counted: Result<u64, NoMemory>) -> SplitFault
     }
 }
 
-/// The graphs of these ranges. From the first one on with which they pass the limit they are
-/// counted without being made: that one's own is let go as soon as it passes what is left.
+/// The graphs of these ranges. From the first one with which they pass the limit, graphs are only
+/// counted: that one's own is dropped as soon as it passes what is left.
 fn graphs_of(
     alloc: Global,
     reach: &mut Reach,
@@ -168,8 +168,9 @@ fn graphs_of(
     Ok(graphs)
 }
 
-/// The graphs of the ranges of a plan, in its order. Limit exactly where they have more than
-/// 500,000 labels and statements. A program of 2^30 places or more is out of memory.
+/// The graphs of the ranges of a plan, in its order. The errors are Limit, exactly where they have
+/// more than 500,000 labels and statements, and out of memory, also where the program has 2^30
+/// places or more.
 pub fn lower_ranges(
     alloc: Global,
     program: &Program,

@@ -32,8 +32,8 @@ fn push_closed(made: &mut Vec<Closed>, shaped: Shaped) -> Result<(), NoMemory>
     }
 }
 
-/// What the graphs are shaped to, in their order. Limit exactly where one of them nests deeper than
-/// 500 levels.
+/// What the graphs are shaped to, in their order. The errors are Limit, exactly where one of them
+/// nests deeper than 500 levels, and out of memory.
 pub fn shape_all(alloc: Global, graphs: Vec<Graph>) -> Result<Vec<Closed>, SplitFault>
     requires { AllClosed graphs.items }
     ensures { MatchResult result (λ closed. AllShaped graphs.items closed.items)

@@ -1,4 +1,4 @@
--- What lowering asks of a statement. What stands in it is asked of what cutting leaves of it.
+-- What lowering asks of a statement. What is in it is asked of what cutting leaves of it.
 use Rattle.std.specs.Prelude.{Bool, true, false, if◌then◌else◌}
 use Rattle.control_flow_theory.specs.language.Language.{Stmt, Stmts, Arms}
 use Rattle.control_flow_theory.specs.lowering.FlowFacts.{FlowFacts}
@@ -6,6 +6,8 @@ use Rattle.control_flow_theory.specs.lowering.Completes.{completes, complete, ch
 use Rattle.program_facts.specs.declared.completion.facts.Facts.{Facts}
 
 module _ (told : FlowFacts) where
+  -- what is asked of a statement: whether control comes to what follows it, whether it leaves its
+  -- loop, whether it is without an escape, and whether it leaves its sentence
   abbrev pub facts_of : Stmt → Facts
   facts_of stmt = record {
     completes = completes told stmt;
@@ -14,6 +16,7 @@ module _ (told : FlowFacts) where
     leaves_sentence = leaves_sentence (cut told stmt);
   }
 
+  -- the same of statements in order
   abbrev pub facts_of_all : Stmts → Facts
   facts_of_all stmts = record {
     completes = complete told stmts;
@@ -46,15 +49,17 @@ abbrev pub performing : Bool → Facts
 performing returns =
     record { completes = returns; leaves_loop = false; whole = true; leaves_sentence = false }
 
--- of an escape that leaves no sentence and no loop
+-- the facts of an escape that leaves no sentence and no loop
 abbrev pub escaping : Bool → Facts
 escaping completes =
     record { completes = completes; leaves_loop = false; whole = false; leaves_sentence = false }
 
+-- the facts of NEXT SENTENCE
 abbrev pub leaving_sentence : Facts
 leaving_sentence =
     record { completes = false; leaves_loop = false; whole = false; leaves_sentence = true }
 
+-- of EXIT PERFORM
 abbrev pub leaving_loop : Facts
 leaving_loop =
     record { completes = false; leaves_loop = true; whole = false; leaves_sentence = false }
@@ -68,11 +73,11 @@ beside arm others = record {
   leaves_sentence = if arm.leaves_sentence then true else others.leaves_sentence;
 }
 
--- one behind the other
+-- one after the other
 abbrev pub both : Facts → Facts → Facts
 both first next = record (beside first next) { completes = next.completes }
 
--- behind what can't complete nothing stands
+-- after what can't complete there is nothing
 abbrev pub behind : Facts → Facts → Facts
 behind first next = if first.completes then both first next else first
 

@@ -4,7 +4,7 @@ use Rattle.cob_tree.specs.declared.stmt.Stmt.{Stmt}
 use Rattle.control_flow_theory.specs.language.Control.{seen}
 use Rattle.control_flow_theory.specs.lowering.Completes.{whole}
 
--- a statement without an escape is the same for control in whatever section it stands
+-- a statement without an escape is the same for control in whatever section it is
 abbrev pub SectionsSeeWholeStatementsAlike : Type 0
 SectionsSeeWholeStatementsAlike =
     (stmt : Stmt) (last other : ℕ) → whole (seen last stmt) ≡ true →

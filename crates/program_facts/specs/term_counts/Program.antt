@@ -11,9 +11,11 @@ use Rattle.cob_tree.specs.declared.program.Sentence.{Sentence}
 use Rattle.program_facts.specs.term_counts.Expression.{if_any, place_most}
 use Rattle.program_facts.specs.term_counts.Statement.{stmts_most}
 
+-- the largest in a sentence
 abbrev pub sentence_most : Sentence → ℕ
 sentence_most sentence = stmts_most sentence.stmts
 
+-- the largest in a paragraph
 abbrev pub paragraph_most : Paragraph → ℕ
 paragraph_most paragraph = largest (map sentence_most paragraph.sentences)
 
@@ -26,6 +28,7 @@ abbrev pub terms_of : Program → ℕ
 terms_of program =
     max (largest (map paragraph_most program.paragraphs)) (largest (map file_most program.files))
 
+-- the limit of the result's terms, passed by one
 abbrev pub terms_passed : Limit
 terms_passed = past Terms true (max_terms + 1)
 

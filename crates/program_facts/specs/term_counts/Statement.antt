@@ -9,11 +9,12 @@ use Rattle.program_facts.specs.term_counts.Condition.{cond_terms}
 use Rattle.program_facts.specs.term_counts.Expression.{if_any, place_most, operand_most, places_most, operands_most}
 use Rattle.program_facts.specs.term_counts.Part.{control_most, calc_most, targets_most, subject_most, tests_most}
 
--- the largest of the statements in an arm, which may be absent
+-- the most terms of a statement in an arm, which may be absent
 abbrev pub arm_most : Option (List ℕ) → ℕ
 arm_most None = 0
 arm_most (Some counts) = largest counts
 
+-- the largest in one level of a statement
 abbrev pub stmt_step : Stmt-F ℕ ℕ ℕ → ℕ
 stmt_step (Stmt-F.Display items advance) = operands_most items
 stmt_step (Stmt-F.Move from to) = max (operand_most from) (places_most to)
@@ -30,23 +31,30 @@ stmt_step (Stmt-F.Perform entry exit control) = control_most control
 stmt_step (Stmt-F.GoDepending to on) = place_most on
 stmt_step _ = 0
 
+-- the largest in one level of a statement's arms
 abbrev pub arms_step : Arms-F ℕ ℕ ℕ → ℕ
 arms_step arms = max (arm_most arms.first) (arm_most arms.second)
 
+-- the largest in one level of a WHEN
 abbrev pub when_step : When-F ℕ ℕ ℕ → ℕ
 when_step when = max (tests_most when.tests) (largest when.stmts)
 
+-- the largest in a statement
 abbrev pub stmt_most : Stmt → ℕ
 stmt_most = fold-Stmt ℕ ℕ ℕ stmt_step arms_step when_step
 
+-- the largest in a statement's arms
 abbrev pub arms_most : Arms → ℕ
 arms_most = fold-Arms ℕ ℕ ℕ stmt_step arms_step when_step
 
+-- the largest in a WHEN
 abbrev pub when_most : When → ℕ
 when_most = fold-When ℕ ℕ ℕ stmt_step arms_step when_step
 
+-- the largest in these statements
 abbrev pub stmts_most : List Stmt → ℕ
 stmts_most stmts = largest (map stmt_most stmts)
 
+-- the largest in these WHENs
 abbrev pub whens_most : List When → ℕ
 whens_most whens = largest (map when_most whens)

@@ -20,25 +20,29 @@ use Rattle.control_flow_theory.specs.language.All.{all}
 use Rattle.program_facts.specs.well_scoped.Part.{Counts, is_filled, if_any, number_named, item_named, file_named, paragraph_named, place_named, places_named, operand_named, operands_named}
 use Rattle.program_facts.specs.well_scoped.Beside.{turns, is_truth, is_value, cond_named, control_named, calc_named, target_named, subject_named, test_named}
 
--- of a WHEN: whether what it holds is named, and under which subjects its tests may stand
+-- of a WHEN: whether what it holds is named, and under which subjects its tests may be
 pub record Branch : Type 0 where
   pub named : Bool
+  -- its tests may be under TRUE or FALSE
   pub truths : Bool
+  -- its tests may be under a value
   pub values : Bool
 
 -- statements, one at least
 abbrev pub arm : List Bool → Bool
 arm stmts = is_filled stmts && all stmts
 
--- the tests are those of conditions under TRUE and FALSE, else of values
+-- the tests suit the subject: conditions under TRUE and FALSE, else values
 abbrev pub fit : Subject → List Branch → Bool
 fit (subject.Value expr) whens = all (map (λ when. when.values) whens)
 fit _ whens = all (map (λ when. when.truths) whens)
 
 module _ (counts : Counts) where
+  -- the file of an OPEN is there
   abbrev pub opening_named : Opening → Bool
   opening_named opening = file_named counts opening.file
 
+  -- one level of a statement
   abbrev pub stmt_step : Stmt-F Bool Bool Branch → Bool
   stmt_step (Stmt-F.Display items advance) = is_filled items && operands_named counts items
   stmt_step (Stmt-F.Move from to) =
@@ -66,9 +70,11 @@ module _ (counts : Counts) where
       (is_filled to && all (map (paragraph_named counts) to)) && place_named counts on
   stmt_step _ = true
 
+  -- one level of a statement's arms
   abbrev pub arms_step : Arms-F Bool Bool Branch → Bool
   arms_step arms = if_any arm arms.first && if_any arm arms.second
 
+  -- one level of a WHEN
   abbrev pub when_step : When-F Bool Bool Branch → Branch
   when_step when = record {
     named = (is_filled when.tests && all (map (test_named counts) when.tests)) && arm when.stmts;
@@ -76,15 +82,19 @@ module _ (counts : Counts) where
     values = all (map is_value when.tests);
   }
 
+  -- what a statement names is there, and its lists are filled
   abbrev pub stmt_named : Stmt → Bool
   stmt_named = fold-Stmt Bool Bool Branch stmt_step arms_step when_step
 
+  -- the same of a statement's arms
   abbrev pub arms_named : Arms → Bool
   arms_named = fold-Arms Bool Bool Branch stmt_step arms_step when_step
 
+  -- the same of a WHEN, and under which subjects its tests may be
   abbrev pub when_seen : When → Branch
   when_seen = fold-When Bool Bool Branch stmt_step arms_step when_step
 
+  -- the same of these statements
   abbrev pub stmts_named : List Stmt → Bool
   stmts_named stmts = all (map stmt_named stmts)
 
@@ -92,9 +102,11 @@ module _ (counts : Counts) where
   abbrev pub sentence_named : Sentence → Bool
   sentence_named sentence = is_filled sentence.stmts && stmts_named sentence.stmts
 
+  -- the same of these sentences
   abbrev pub sentences_named : List Sentence → Bool
   sentences_named sentences = all (map sentence_named sentences)
 
+  -- the same of these paragraphs
   abbrev pub paragraphs_named : List Paragraph → Bool
   paragraphs_named paragraphs = all
       (map (λ paragraph. sentences_named paragraph.sentences) paragraphs)
@@ -109,5 +121,6 @@ counts_of program = record {
 
 -- the statements of a program that has a paragraph
 pub record NamesItsOwn (program : Program) : Type 0 where
+  -- there is a paragraph
   pub some : IsTrue (is_filled program.paragraphs)
   pub statements : IsTrue (paragraphs_named (counts_of program) program.paragraphs)

@@ -25,15 +25,18 @@ is_whole_picture (Some (pictures.Number signed whole part)) = part == 0 && nat_l
 is_whole_picture (Some (pictures.Letters count)) = false
 is_whole_picture (Some (pictures.Any count)) = false
 
+-- an item without decimal places
 abbrev pub is_whole_entry : Option Entry → Bool
 is_whole_entry None = false
 is_whole_entry (Some entry) = is_whole_picture entry.picture
 
 module _ (entries : List Entry) where
+  -- the place is such an item, without a window
   abbrev pub place_is_whole : Place → Bool
   place_is_whole place =
       not (is_some (out-Place place).window) && is_whole_entry (slice_get entries (out-Place place).item)
 
+  -- the operand is such a place, a whole number, or ZERO
   abbrev pub amount_is_whole_by : Operand-F Expr Operand Place Sub Window → Bool
   amount_is_whole_by (Operand-F.Place place) = place_is_whole place
   amount_is_whole_by (Operand-F.Number number) = number.scale == 0
@@ -41,13 +44,16 @@ module _ (entries : List Entry) where
   amount_is_whole_by (Operand-F.Figure figures.Zero) = true
   amount_is_whole_by (Operand-F.Figure _) = false
 
+  -- the operand of TIMES is a whole number
   abbrev pub amount_is_whole : Operand → Bool
   amount_is_whole operand = amount_is_whole_by (out-Operand operand)
 
+  -- a loop by TIMES counts by a whole number
   abbrev pub control_counts_whole : Control → Bool
   control_counts_whole (control.Times amount) = amount_is_whole amount
   control_counts_whole _ = true
 
+  -- one level of a statement
   abbrev pub whole_step : Stmt-F Bool Bool Bool → Bool
   whole_step (Stmt-F.Arith calc into arms) = arms
   whole_step (Stmt-F.Read file into arms) = arms
@@ -58,12 +64,15 @@ module _ (entries : List Entry) where
   whole_step (Stmt-F.GoDepending to on) = place_is_whole on
   whole_step _ = true
 
+  -- one level of a statement's arms
   abbrev pub whole_arms : Arms-F Bool Bool Bool → Bool
   whole_arms arms = all_if arms.first && all_if arms.second
 
+  -- one level of a WHEN
   abbrev pub whole_when : When-F Bool Bool Bool → Bool
   whole_when when = all when.stmts
 
+  -- each count in a statement is by a whole number
   abbrev pub stmt_counts_whole : Stmt → Bool
   stmt_counts_whole = fold-Stmt Bool Bool Bool whole_step whole_arms whole_when
 

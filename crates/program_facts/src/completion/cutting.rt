@@ -1,4 +1,4 @@
-//! Statements whose lists are cut behind what can't complete.
+//! Statements whose lists are cut after what can't complete.
 
 ghost use Rattle.std.specs.Prelude.{IfOk};
 ghost use Rattle.program_facts.specs.completion.FlowFacts.{flow_facts_of};
@@ -9,7 +9,7 @@ use cob_base::{Copied, Items, NoMemory};
 use cob_tree::{Arms, FileEntry, Stmt, When};
 use std::alloc::Global;
 
-/// A copy whose lists end behind their first statement that can't complete, nested ones too.
+/// A copy whose lists, also nested ones, end after their first statement that can't complete.
 #[cycle(cut)]
 pub fn cut_stmt(
     alloc: Global,

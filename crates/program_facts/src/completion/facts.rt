@@ -1,4 +1,4 @@
-//! What lowering asks of a statement.
+//! What lowering needs to know of a statement.
 
 ghost use Rattle.std.specs.Prelude.{◌≡◌};
 ghost use Rattle.control_flow_theory.specs.language.Control.{control_in};
@@ -10,16 +10,16 @@ use crate::completion::told::{ends_at_end, returns};
 use cob_base::Items;
 use cob_tree::{Arms, Control, FileEntry, Stmt, When};
 
-/// What lowering asks of a statement, or of a list of them.
+/// What lowering needs to know of a statement, or of a list of them.
 #[derive(Clone, Copy, Debug, PartialEq, Eq)]
 pub struct Facts {
-    /// Control can come behind it.
+    /// Whether control can come to what follows it.
     pub completes: bool,
-    /// An EXIT PERFORM of the loop around stands in it, and not behind what can't complete.
+    /// Whether it holds an EXIT PERFORM of the loop around it, not after what can't complete.
     pub leaves_loop: bool,
-    /// No escape stands in it, when it is cut.
+    /// Whether it holds no escape, once it is cut.
     pub whole: bool,
-    /// A NEXT SENTENCE stands in it, when it is cut.
+    /// Whether it holds a NEXT SENTENCE, once it is cut.
     pub leaves_sentence: bool,
 }
 
@@ -95,7 +95,7 @@ fn looped(after: bool, body: Facts) -> Facts
     }
 }
 
-/// Of a PERFORM without a loop, whose range returns or doesn't, and of STOP RUN.
+/// The facts of a PERFORM without a loop, whose range returns or doesn't, and of STOP RUN.
 fn performing(returns: bool) -> Facts
     ensures { result ≡ performing returns }
 {
@@ -107,7 +107,7 @@ fn performing(returns: bool) -> Facts
     }
 }
 
-/// Of an escape that leaves no sentence and no loop.
+/// The facts of an escape that leaves no sentence and no loop.
 fn escaping(completes: bool) -> Facts
     ensures { result ≡ escaping completes }
 {
@@ -119,7 +119,7 @@ fn escaping(completes: bool) -> Facts
     }
 }
 
-/// Of NEXT SENTENCE.
+/// The facts of NEXT SENTENCE.
 fn leaving_sentence() -> Facts
     ensures { result ≡ leaving_sentence }
 {
@@ -131,7 +131,7 @@ fn leaving_sentence() -> Facts
     }
 }
 
-/// Of EXIT PERFORM.
+/// The facts of EXIT PERFORM.
 fn leaving_loop() -> Facts
     ensures { result ≡ leaving_loop }
 {
@@ -143,7 +143,7 @@ fn leaving_loop() -> Facts
     }
 }
 
-/// The loop is tested after its body.
+/// Whether the loop is tested after its body.
 fn is_after(control: &Control) -> bool
     ensures { result ≡ is_after_seen (control_in control.now) }
 {
@@ -155,7 +155,7 @@ fn is_after(control: &Control) -> bool
     }
 }
 
-/// Of an inline loop over a body.
+/// The facts of an inline loop over a body.
 fn loop_facts(control: &Control, body: Facts) -> Facts
     ensures { result ≡ loop_facts (control_in control.now) body }
 {
@@ -165,7 +165,7 @@ fn loop_facts(control: &Control, body: Facts) -> Facts
     }
 }
 
-/// Of a PERFORM of a range that returns or doesn't.
+/// The facts of a PERFORM of a range that returns or doesn't.
 fn perform_facts(control: &Control, returns: bool) -> Facts
     ensures { result ≡ perform_facts (control_in control.now) returns }
 {
@@ -175,7 +175,8 @@ fn perform_facts(control: &Control, returns: bool) -> Facts
     }
 }
 
-/// What lowering asks of a statement, told these files and the exits of the ranges that return.
+/// What lowering needs to know of a statement, with these files and the exits of the ranges that
+/// return.
 #[cycle(facts)]
 pub fn stmt_facts(stmt: &Stmt, files: &[FileEntry], returning: &[Items<u32>]) -> Facts
     ensures { AreFacts (flow_facts_of files.now returning.now) stmt.now result }
@@ -241,7 +242,7 @@ fn both_facts(arms: &Arms, is_dead: bool, files: &[FileEntry], returning: &[Item
     }
 }
 
-/// Of statements, in order; what stands behind one that can't complete isn't looked at.
+/// The facts of statements, in order; what comes after one that can't complete isn't considered.
 #[cycle(facts)]
 pub fn stmts_facts(stmts: &[Stmt], files: &[FileEntry], returning: &[Items<u32>]) -> Facts
     ensures { AreFactsOfAll (flow_facts_of files.now returning.now) stmts.now result }
@@ -256,7 +257,7 @@ pub fn stmts_facts(stmts: &[Stmt], files: &[FileEntry], returning: &[Items<u32>]
     facts
 }
 
-/// Of the ELSE, which is missing where it is empty.
+/// The facts of the ELSE, which is missing where it is empty.
 #[cycle(facts)]
 fn else_facts(stmts: &[Stmt], files: &[FileEntry], returning: &[Items<u32>]) -> Facts
     ensures { AreFactsOfElse (flow_facts_of files.now returning.now) stmts.now result }

@@ -2,7 +2,7 @@
 
 ghost use Rattle.program_facts.specs.completion.Laws.{SectionsSeeWholeStatementsAlike};
 
-/// A statement without an escape is the same for control in whatever section it stands.
+/// The control of a statement without an escape is the same in whatever section it is.
 pub fn sections_see_whole_statements_alike()
     ensures { SectionsSeeWholeStatementsAlike }
 {}

@@ -1,4 +1,4 @@
-//! What lowering is told.
+//! What lowering knows of a program.
 
 ghost use Rattle.std.specs.Prelude.{◌≡◌, false, slice_get};
 ghost use Rattle.program_facts.specs.completion.FlowFacts.{is_among, returns_by, status_missing};
@@ -6,7 +6,7 @@ ghost use Rattle.program_facts.specs.completion.FlowFacts.{is_among, returns_by,
 use cob_base::Items;
 use cob_tree::FileEntry;
 
-/// The number is one of these.
+/// Whether the number is one of these.
 fn is_among(number: u32, numbers: &[u32]) -> bool
     ensures { result ≡ is_among number numbers.now }
 {
@@ -18,7 +18,7 @@ fn is_among(number: u32, numbers: &[u32]) -> bool
     false
 }
 
-/// The range returns: `returning` has, for each entry, the exits of those that do.
+/// Whether the range returns: `returning` has, for each entry, the exits of those that do.
 pub fn returns(returning: &[Items<u32>], entry: u32, exit: u32) -> bool
     ensures { result ≡ returns_by returning.now entry exit }
 {
@@ -28,7 +28,7 @@ pub fn returns(returning: &[Items<u32>], entry: u32, exit: u32) -> bool
     }
 }
 
-/// The file has no status item: without AT END its end ends the run.
+/// Whether the file has no status item, so that without AT END its end ends the run.
 pub fn ends_at_end(files: &[FileEntry], file: u32) -> bool
     ensures { result ≡ status_missing (slice_get files.now file) }
 {

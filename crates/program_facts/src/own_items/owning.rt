@@ -32,7 +32,7 @@ fn is_added_side(side: &Expr) -> bool
     }
 }
 
-/// Whether EVALUATE of this subject is none by an added item.
+/// Whether EVALUATE of this subject isn't a choice by an added item.
 pub fn is_own_subject(subject: &Subject) -> bool
     ensures { result ≡ not (is_some (cell_chosen subject.now)) }
 {
@@ -43,7 +43,7 @@ pub fn is_own_subject(subject: &Subject) -> bool
     }
 }
 
-/// Whether a MOVE to these places is none to an added item alone.
+/// Whether a MOVE to these places isn't one to an added item alone.
 pub fn is_own_move(to: &[Place]) -> bool
     ensures own { result ≡ true → IsOwnMove to.now }
     ensures every { IsTrue (places_own to.now) → result ≡ true }
@@ -54,7 +54,7 @@ pub fn is_own_move(to: &[Place]) -> bool
     }
 }
 
-/// Whether arithmetic into these targets is none into an added item alone.
+/// Whether arithmetic into these targets isn't into an added item alone.
 pub fn is_own_arith(into: &[Target]) -> bool
     ensures own { result ≡ true → IsOwnArith into.now }
     ensures every { IsTrue (all (map target_own into.now)) → result ≡ true }
@@ -65,7 +65,7 @@ pub fn is_own_arith(into: &[Target]) -> bool
     }
 }
 
-/// Whether the condition is no relation of an added item, nor the negation of one.
+/// Whether the condition is neither a relation of an added item nor the negation of one.
 #[cycle(own)]
 pub fn is_own_test(cond: &Cond) -> bool
     ensures own { result ≡ true → OwnTest (test_of cond.now) }
@@ -82,7 +82,7 @@ pub fn is_own_test(cond: &Cond) -> bool
     }
 }
 
-/// Whether a loop of this control is none that is tested by an added item.
+/// Whether a loop with this control isn't tested by an added item.
 pub fn is_own_control(control: &Control) -> bool
     ensures own { result ≡ true → OwnTurns (control_in control.now) }
     ensures every { IsTrue (control_own control.now) → result ≡ true }

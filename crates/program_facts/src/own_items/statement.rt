@@ -17,8 +17,8 @@ fn all_three(first: bool, second: bool, third: bool) -> bool
     first && second && third
 }
 
-/// Whether no word on an added item stands in the statement. Arithmetic into an added item is none
-/// of the program's own, also where it has a phrase.
+/// Whether the statement holds no word on an added item. Arithmetic into an added item isn't one of
+/// the program's own, also where it has a phrase.
 #[cycle(own)]
 pub fn is_own_stmt(stmt: &Stmt) -> bool
     ensures { result ≡ true → OwnStmt (seen 0 stmt.now) }
@@ -59,7 +59,7 @@ pub fn is_own_stmt(stmt: &Stmt) -> bool
     }
 }
 
-/// Whether none stands in these statements.
+/// Whether these statements hold no word on an added item.
 #[cycle(own)]
 pub fn is_own_stmts(stmts: &Items<Stmt>) -> bool
     ensures { result ≡ true → OwnStmts (seen_stmts 0 stmts.now) }

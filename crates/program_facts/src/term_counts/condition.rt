@@ -1,4 +1,4 @@
-//! Terms of conditions. A count past the last number of the type is that number.
+//! Terms of conditions. A count is at most the largest `u32`.
 
 ghost use Rattle.std.specs.Prelude.{◌≡◌, ◌-◌, ◌^◌, min};
 ghost use Rattle.program_facts.specs.term_counts.Condition.{cond_terms};
@@ -6,6 +6,7 @@ ghost use Rattle.program_facts.specs.term_counts.Condition.{cond_terms};
 use crate::term_counts::expression::{expr_terms, place_terms};
 use cob_tree::Cond;
 
+/// The terms of a condition.
 pub fn cond_terms(cond: &Cond) -> u32
     ensures { result ≡ min (cond_terms cond.now) (2 ^ 32 - 1) }
 {

@@ -1,10 +1,11 @@
-//! Terms of expressions. A count past the last number of the type is that number.
+//! Terms of expressions. A count is at most the largest `u32`.
 
 ghost use Rattle.std.specs.Prelude.{◌≡◌, ◌-◌, ◌^◌, min};
 ghost use Rattle.program_facts.specs.term_counts.Expression.{expr_terms, operand_terms, place_terms, window_terms, window_most, place_most, operand_most, places_most, operands_most};
 
 use cob_tree::{Expr, Operand, Place, Window};
 
+/// The terms of an expression.
 #[cycle(terms)]
 pub fn expr_terms(expr: &Expr) -> u32
     ensures { result ≡ min (expr_terms expr.now) (2 ^ 32 - 1) }
@@ -30,6 +31,7 @@ fn operand_terms(operand: &Operand) -> u32
     }
 }
 
+/// The terms that a place adds to the expression that holds it: those of its window.
 #[cycle(terms)]
 pub fn place_terms(place: &Place) -> u32
     ensures { result ≡ min (place_terms place.now) (2 ^ 32 - 1) }
@@ -51,7 +53,7 @@ fn window_terms(window: &Window) -> u32
     }
 }
 
-/// The terms of the larger expression of a window that stands in none.
+/// The terms of the larger expression of a window that isn't in an expression.
 fn window_most(window: &Window) -> u32
     ensures { result ≡ min (window_most window.now) (2 ^ 32 - 1) }
 {
@@ -62,6 +64,7 @@ fn window_most(window: &Window) -> u32
     }
 }
 
+/// The terms of the largest expression in a place that isn't in an expression.
 pub fn place_most(place: &Place) -> u32
     ensures { result ≡ min (place_most place.now) (2 ^ 32 - 1) }
 {
@@ -71,6 +74,7 @@ pub fn place_most(place: &Place) -> u32
     }
 }
 
+/// The terms of the largest expression in an operand.
 pub fn operand_most(operand: &Operand) -> u32
     ensures { result ≡ min (operand_most operand.now) (2 ^ 32 - 1) }
 {
@@ -82,6 +86,7 @@ pub fn operand_most(operand: &Operand) -> u32
     }
 }
 
+/// The terms of the largest expression in places.
 pub fn places_most(places: &[Place]) -> u32
     ensures { result ≡ min (places_most places.now) (2 ^ 32 - 1) }
 {
@@ -92,6 +97,7 @@ pub fn places_most(places: &[Place]) -> u32
     most
 }
 
+/// The terms of the largest expression in operands.
 pub fn operands_most(operands: &[Operand]) -> u32
     ensures { result ≡ min (operands_most operands.now) (2 ^ 32 - 1) }
 {

@@ -1,5 +1,5 @@
-//! The largest condition or expression in what statements are made of, by its terms. A count past
-//! the last number of the type is that number.
+//! The terms of the largest condition or expression in the parts of statements. A count is at most
+//! the largest `u32`.
 
 ghost use Rattle.std.specs.Prelude.{◌≡◌, ◌-◌, ◌^◌, min};
 ghost use Rattle.program_facts.specs.term_counts.Part.{control_most, calc_most, target_most, targets_most, subject_most, test_most, tests_most};
@@ -8,6 +8,7 @@ use crate::term_counts::condition::cond_terms;
 use crate::term_counts::expression::{expr_terms, operand_most, operands_most, place_most};
 use cob_tree::{Calc, Control, Subject, Target, Test};
 
+/// The terms of the largest condition or expression in a control.
 pub fn control_most(control: &Control) -> u32
     ensures { result ≡ min (control_most control.now) (2 ^ 32 - 1) }
 {
@@ -28,6 +29,7 @@ pub fn control_most(control: &Control) -> u32
     }
 }
 
+/// The terms of the largest expression in what an arithmetic statement computes.
 pub fn calc_most(calc: &Calc) -> u32
     ensures { result ≡ min (calc_most calc.now) (2 ^ 32 - 1) }
 {
@@ -52,6 +54,7 @@ fn target_most(target: &Target) -> u32
     place_most(&target.place)
 }
 
+/// The terms of the largest expression in targets.
 pub fn targets_most(targets: &[Target]) -> u32
     ensures { result ≡ min (targets_most targets.now) (2 ^ 32 - 1) }
 {
@@ -62,6 +65,7 @@ pub fn targets_most(targets: &[Target]) -> u32
     most
 }
 
+/// The terms of the largest condition or expression in a subject of EVALUATE.
 pub fn subject_most(subject: &Subject) -> u32
     ensures { result ≡ min (subject_most subject.now) (2 ^ 32 - 1) }
 {
@@ -85,6 +89,7 @@ fn test_most(test: &Test) -> u32
     }
 }
 
+/// The terms of the largest condition or expression in tests of WHEN.
 pub fn tests_most(tests: &[Test]) -> u32
     ensures { result ≡ min (tests_most tests.now) (2 ^ 32 - 1) }
 {

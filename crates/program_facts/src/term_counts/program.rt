@@ -1,4 +1,4 @@
-//! The largest condition or expression of a program, by its terms, and the limit of the result.
+//! The terms of the largest condition or expression of a program, and the limit on the result.
 
 ghost use Rattle.std.specs.Prelude.{◌≡◌, ◌-◌, ◌^◌, min, nat_lt, map};
 ghost use Rattle.cob_tree.specs.Depth.{largest};
@@ -46,8 +46,7 @@ fn files_most(files: &[FileEntry]) -> u32
     most
 }
 
-/// How many terms the largest condition or expression has; past the last number of the type that
-/// number.
+/// How many terms the largest condition or expression has; at most the largest `u32`.
 pub fn terms_of(program: &Program) -> u32
     ensures { result ≡ min (terms_of program.now) (2 ^ 32 - 1) }
 {

@@ -1,5 +1,5 @@
-//! The largest condition or expression of statements, by its terms. A count past the last number of
-//! the type is that number.
+//! The terms of the largest condition or expression of statements. A count is at most the largest
+//! `u32`.
 
 ghost use Rattle.std.specs.Prelude.{◌≡◌, ◌-◌, ◌^◌, min};
 ghost use Rattle.program_facts.specs.term_counts.Expression.{if_any, place_most, operand_most};
@@ -11,6 +11,7 @@ use crate::term_counts::part::{calc_most, control_most, subject_most, targets_mo
 use cob_base::Items;
 use cob_tree::{Arms, Operand, Place, Stmt, When};
 
+/// The terms of the largest expression in a place, where there is one.
 pub fn some_place_most(place: &Option<Place>) -> u32
     ensures { result ≡ min (if_any place_most place.now) (2 ^ 32 - 1) }
 {
@@ -80,6 +81,7 @@ fn arms_most(arms: &Arms) -> u32
     }
 }
 
+/// The terms of the largest condition or expression in statements.
 #[cycle(most)]
 pub fn stmts_most(stmts: &Items<Stmt>) -> u32
     ensures { result ≡ min (stmts_most stmts.now) (2 ^ 32 - 1) }

@@ -6,6 +6,7 @@ use Rattle.control_flow_theory.specs.language.Items.{Item}
 use Rattle.program_points.specs.paths.Step.{Point, at, item_by}
 use Rattle.program_points.specs.paths.Flow.{main_range, part}
 
+-- the items, with their counted loops so
 abbrev pub uncounted : List Item → List Item
 uncounted items = map (item_by 0) items
 

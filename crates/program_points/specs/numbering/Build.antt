@@ -19,25 +19,32 @@ use Rattle.program_points.specs.declared.point_table.table.ProgramPoint.TheVaria
 abbrev pub part_of : List ProgramPoint → List Range → Table
 part_of places ranges = record { places = places; owners = []; starts = []; ranges = ranges }
 
--- places of this paragraph were added behind the old ones, and each of them says what control does
+-- places of this paragraph were added after the old ones, and each of them says what control does
 -- at its point
 pub record Grown (never_first : Chooser → Bool) (program : Program) (home : ℕ) (old new : List
     ProgramPoint) (old_ranges new_ranges : List Range) (points later : ℕ → Point) : Type 0 where
   pub longer : length old ≤ length new
+  -- the old places are the same
   pub kept : (number : ℕ) → number < length old → slice_get new number ≡ slice_get old number
+  -- the ranges keep their numbers
   pub ranges : (number : ℕ) (range : Range) → slice_get old_ranges number ≡ Some range →
       slice_get new_ranges number ≡ Some range
+  -- the old places keep their points
   pub same : (number : ℕ) → number < length old → later number ≡ points number
+  -- each new place says what control does at its point
   pub described : (number : ℕ) → length old ≤ number → number < length new →
       (place : ProgramPoint) × (slice_get new number ≡ Some place)
       × Describes (part_of new new_ranges) later place (next never_first program (later number))
+  -- each new place is in this paragraph
   pub owned : (number : ℕ) → length old ≤ number → number < length new →
       (later number).paragraph ≡ home
 
 -- the first places are the starts of the paragraphs, and the next ones their ends
 pub record HasParagraphs (program : Program) (count : ℕ) (places : List ProgramPoint)
     (points : ℕ → Point) : Type 0 where
+  -- the first places are the starts of the paragraphs
   pub starts : (paragraph : ℕ) → paragraph < count → points paragraph ≡ start program paragraph
+  -- and the next ones their ends
   pub ends : (paragraph : ℕ) → paragraph < count → points (count + paragraph) ≡ at paragraph []
   pub room : count + count ≤ length places
 
@@ -45,18 +52,23 @@ pub record HasParagraphs (program : Program) (count : ℕ) (places : List Progra
 abbrev pub IsAt : List ProgramPoint → (ℕ → Point) → ℕ → Point → Type 0
 IsAt places points place point = (points place ≡ point) × (place < length places)
 
--- what the places behind statements have to be
+-- what the places after statements have to be
 pub record IsBehind (program : Program) (count number : ℕ) (old : List ProgramPoint)
     (points : ℕ → Point)
     (rest : List Item) (exits : Exits) : Type 0 where
   pub paragraphs : HasParagraphs program count old points
+  -- the paragraph is one of these
   pub here : number < count
+  -- control goes on there after the statements
   pub after : IsAt old points exits.after (at number rest)
+  -- and there after the sentence
   pub leave : IsAt old points exits.leave (at number (past_sentence rest))
+  -- and there after the loop
   pub broken : IsAt old points exits.broken (at number (from_loop false rest))
+  -- and there at the loop's next turn
   pub cycled : IsAt old points exits.cycled (at number (from_loop true rest))
 
--- whatever stands behind the statements at these places, they begin at this one
+-- whatever follows the statements at these places, they begin at this one
 abbrev pub Builds : (Chooser → Bool) → ℕ → ℕ → List ProgramPoint → List ProgramPoint → List Range →
     List Range →
     Stmts → Exits → ℕ → Type 0
@@ -113,7 +125,7 @@ abbrev pub barring : Bool → List (Option ℕ) → List (Option ℕ)
 barring true (first ∷ ways) = None ∷ ways
 barring barred ways = ways
 
--- the same exits behind statements that begin at this place
+-- the same exits after statements that begin at this place
 abbrev pub after_at : Exits → ℕ → Exits
 after_at exits place = record {
   after = place;
@@ -131,7 +143,7 @@ inside exits turn = record {
   cycled = turn;
 }
 
--- the statements of several branches were built, and behind them a choice among them
+-- the statements of several branches were built, and after them a choice among them
 abbrev pub BuildsChoice : (Chooser → Bool) → ℕ → ℕ → List ProgramPoint → List ProgramPoint →
     List Range →
     List Range → List Stmts → Bool → Exits → ℕ → Type 0
@@ -149,13 +161,13 @@ seen_maybe last (Some stmts) = seen_stmts last stmts
 abbrev pub seen_branches : ℕ → List When → List Stmts
 seen_branches last whens = map (λ when. (seen_when last when).arm) whens
 
--- neither of two arms stands
+-- neither of two arms is there
 abbrev pub no_arms : Option (List tree.Stmt) → Option (List tree.Stmt) → Bool
 no_arms None None = true
 no_arms None (Some second) = false
 no_arms (Some first) second = false
 
--- two arms: without either control goes on behind them
+-- two arms: without either control goes on after them
 abbrev pub BuildsBoth : (Chooser → Bool) → ℕ → ℕ → List ProgramPoint → List ProgramPoint →
     List Range →
     List Range → ℕ → Option (List tree.Stmt) → Option (List tree.Stmt) → Bool → Exits → ℕ → Type 0

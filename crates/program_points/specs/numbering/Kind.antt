@@ -6,22 +6,26 @@ use Rattle.control_flow_theory.specs.language.Items.{Turning, Counted, Tests, St
 use Rattle.program_points.specs.declared.numbering.kind.LoopStart.{LoopStart}
 use Rattle.program_points.specs.declared.numbering.kind.LoopStart.TheVariants.{Before, Again, After}
 
+-- where a loop begins: at its test or count, at its first test with the augmenting ADD before each
+-- later one, or at its body
 abbrev pub kind_in : Control → LoopStart
 kind_in (Times amount) = Before
 kind_in (Until after test) = if after then After else Before
 kind_in (Varying after set step test) = if after then After else Again
 
--- what is left of a loop behind its body
+-- what is left of a loop after its body
 abbrev pub remainder : Control → Turning
 remainder (Times amount) = Counted 0
 remainder (Until after test) = Tests test
 remainder (Varying false set step test) = Steps true step test
 remainder (Varying true set step test) = StepsAfter step test
 
+-- the file is there, and has no status item
 abbrev pub has_no_status : Option FileEntry → Bool
 has_no_status None = false
 has_no_status (Some file) = not (is_some file.status)
 
+-- the file with this number has no status item
 abbrev pub is_silent : List FileEntry → ℕ → Bool
 is_silent files file = has_no_status (slice_get files file)
 

@@ -6,12 +6,15 @@ use Rattle.cob_tree.specs.declared.ending.FlowFault.TheVariants.{Overlap, Reentr
 use Rattle.control_flow_theory.specs.language.Language.{Chooser, Program}
 use Rattle.program_points.specs.paths.Step.{Point, start, Next, Ways, Calls, Stops, Ends, next, way_at, is_paragraph}
 
+-- the range of the whole program, which has no exit
 abbrev pub main_range : Range
 main_range = record { entry = 0; exit = None }
 
+-- the range from an entry to an exit
 abbrev pub part : ℕ → ℕ → Range
 part entry exit = record { entry = entry; exit = Some exit }
 
+-- the range's exit is this paragraph
 abbrev pub is_exit : Option ℕ → ℕ → Bool
 is_exit None paragraph = false
 is_exit (Some exit) paragraph = exit == paragraph
@@ -19,8 +22,10 @@ is_exit (Some exit) paragraph = exit == paragraph
 -- a return that is pending: the paragraph at whose end it is made, and where control goes on then
 pub record Pending : Type 0 where
   pub end : ℕ
+  -- where control goes on then
   pub back : Point
 
+-- a return that is pending at this end, and goes back there
 abbrev pub returning : ℕ → Point → Pending
 returning end back = record { end = end; back = back }
 
@@ -50,7 +55,7 @@ pub data FreeStep (never_first : Chooser → Bool) (program : Program) (range : 
       is_paragraph program (suc paragraph) ≡ true →
       FreeStep never_first program range from pending (start program (suc paragraph)) pending
 
--- from the range's entry, with the range alone pending, a free flow path comes here
+-- a free flow path comes here from the range's entry, with the range alone pending
 pub data FreePath (never_first : Chooser → Bool) (program : Program) (range : Range) : Point →
     List Pending → Type 0 where
   begins : FreePath never_first program range (start program range.entry) []
@@ -59,6 +64,7 @@ pub data FreePath (never_first : Chooser → Bool) (program : Program) (range : 
       FreeStep never_first program range from before to after →
       FreePath never_first program range to after
 
+-- one of these is the end
 abbrev pub is_among : ℕ → List ℕ → Bool
 is_among end [] = false
 is_among end (other ∷ ends) = if other == end then true else is_among end ends
@@ -72,6 +78,7 @@ fault_of (Ends paragraph) [] = None
 fault_of (Ends paragraph) (top ∷ others) = if top == paragraph then None
     else (if is_among paragraph others then Some (Overlap paragraph) else None)
 
+-- the ends of the returns that are pending
 abbrev pub ends_of : List Pending → List ℕ
 ends_of pending = map (λ (return : Pending). return.end) pending
 
@@ -90,7 +97,9 @@ pub record IsFaulty (never_first : Chooser → Bool) (program : Program) : Type 
   pub point : Point
   pub pending : List Pending
   pub fault : FlowFault
+  -- a flow path comes to this point
   pub path : FlowPath never_first program point pending
+  -- where a step is this fault
   pub meets : fault_of (next never_first program point) (ends_of pending) ≡ Some fault
 
 -- What a summary tells of a program, by paths.
@@ -114,13 +123,14 @@ ReturnsIn never_first program range = (point : Point) × (exit : ℕ) ×
     FreePath never_first program range point [] × (next never_first program point ≡ Ends exit)
     × (is_exit range.exit exit ≡ true)
 
--- main, and what some free flow path performs
+-- the range is main, or some free flow path performs it
 abbrev pub IsRange : (Chooser → Bool) → Program → Range → Type 0
 IsRange never_first program range = (range ≡ main_range) ⊎ ((point : Point)
     × (pending : List Pending) × (entry : ℕ) × (exit : ℕ) × (after : Point) ×
     FreePath never_first program main_range point pending
     × (next never_first program point ≡ Calls entry exit after) × (range ≡ part entry exit))
 
+-- control comes to the paragraph from main, by some free flow path
 abbrev pub IsReached : (Chooser → Bool) → Program → ℕ → Type 0
 IsReached never_first program paragraph = (point : Point) × (pending : List Pending)
     × FreePath never_first program main_range point pending × (point.paragraph ≡ paragraph)

@@ -8,7 +8,7 @@ use Rattle.program_points.specs.paths.Flow.{Pending, FreePath, IsFaulty}
 use Rattle.program_points.specs.paths.Levels.{Comes, Levels}
 use Rattle.program_points.specs.paths.Accepted.{IsAccepted, NoneTwice, lemma_ranges, hop_ranges}
 
--- a free path comes to a point exactly where levels stand one on the other and the top one comes
+-- a free path comes to a point exactly where levels are one on the other and the top one comes
 -- there
 abbrev pub PathsAreLevels : Type 0
 PathsAreLevels = (never_first : Chooser → Bool) (program : Program) (base : Range)

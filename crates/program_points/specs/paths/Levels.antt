@@ -1,4 +1,4 @@
--- Paths inside one level, and the levels that stand one on the other.
+-- Paths inside one level, and the levels that are one on the other.
 use Rattle.std.specs.Prelude.{Bool, ℕ, suc, ◌≡◌, true, false, List, [], ◌∷◌, Option, Some}
 use Rattle.cob_tree.specs.declared.program.Range.{Range}
 use Rattle.control_flow_theory.specs.language.Language.{Chooser, Program}

@@ -14,16 +14,20 @@ pub record Point : Type 0 where
   pub paragraph : ℕ
   pub rest : List Item
 
+-- in this paragraph, with this rest
 abbrev pub at : ℕ → List Item → Point
 at paragraph rest = record { paragraph = paragraph; rest = rest }
 
+-- at the beginning of the paragraph with this number
 abbrev pub start : Program → ℕ → Point
 start program number = at number (rest_of program number)
 
+-- the paragraph is there
 abbrev pub is_present : Option Paragraph → Bool
 is_present None = false
 is_present (Some paragraph) = true
 
+-- a paragraph has this number
 abbrev pub is_paragraph : Program → ℕ → Bool
 is_paragraph program number = is_present (slice_get program.paragraphs number)
 
@@ -47,16 +51,19 @@ by_way way = record {
   count = λ amount nothing. Got [] 0 nothing;
 }
 
--- a counted loop has no turn left, or one and maybe more: how many isn't looked at
+-- how a loop turns, by a way: a counted loop has no turn left, or one and maybe more; how many
+-- isn't looked at
 abbrev pub turning_by : ℕ → Turning → Turning
 turning_by way (Counted turns) = Counted way
 turning_by way turning = turning
 
+-- the item, by this way of a counted loop
 abbrev pub item_by : ℕ → Item → Item
 item_by way (Do stmt) = Do stmt
 item_by way SentenceEnd = SentenceEnd
 item_by way (Turn turning body) = Turn (turning_by way turning) body
 
+-- what the item does by this way
 abbrev pub way_of : ℕ → Item → List Item → Way (Unit {0})
 way_of way item rest = item_way (by_way way) (item_by way item) rest tt
 
@@ -74,7 +81,7 @@ some_given done = false
 some_given (given arm others) = true
 some_given (missing others) = some_given others
 
--- how many ways it has: its arms, where one is given; its names and the way behind it; or no turn
+-- how many ways it has: its arms, where one is given; its names and the way after it; or no turn
 -- and one more
 abbrev pub way_count : Item → ℕ
 way_count (Do (Choose picker arms)) = if some_given arms then arm_count arms else 1
@@ -82,12 +89,13 @@ way_count (Do (GoDepending to on)) = suc (length to)
 way_count (Turn turning body) = 2
 way_count item = 1
 
--- its first way is never taken
+-- the item is a choice whose first way is never taken
 abbrev pub first_is_barred : (Chooser → Bool) → Item → Bool
 first_is_barred never_first (Do (Choose (By chooser) arms)) =
     if some_given arms then never_first chooser else false
 first_is_barred never_first item = false
 
+-- the ways, of which the first is none where it is never taken
 abbrev pub without_first : Bool → List (Option Point) → List (Option Point)
 without_first true (first ∷ ways) = None ∷ ways
 without_first barred ways = ways
@@ -99,11 +107,12 @@ module _ (never_first : Chooser → Bool) (program : Program) (number : ℕ) whe
   ways_from way (suc count) item rest =
       led program number (way_of way item rest) ∷ ways_from (suc way) count item rest
 
+  -- the ways of an item
   abbrev pub ways_of : Item → List Item → List (Option Point)
   ways_of item rest =
       without_first (first_is_barred never_first item) (ways_from 0 (way_count item) item rest)
 
-  -- one that stops or performs does so by each way
+  -- what comes next by what one way does; what stops or performs does so by each way
   abbrev pub next_by : Item → List Item → Way (Unit {0}) → Next
   next_by item rest (On trace nothing items) = Ways (ways_of item rest)
   next_by item rest (Halts trace how nothing) = Stops
@@ -111,13 +120,16 @@ module _ (never_first : Chooser → Bool) (program : Program) (number : ℕ) whe
   next_by item rest (To trace nothing to) = Ways (ways_of item rest)
   next_by item rest (ToEnd trace nothing to) = Ways (ways_of item rest)
 
+  -- what a step does at this rest
   abbrev pub next_in : List Item → Next
   next_in [] = Ends number
   next_in (item ∷ rest) = next_by item rest (way_of 0 item rest)
 
+-- what a step does at this point
 abbrev pub next : (Chooser → Bool) → Program → Point → Next
 next never_first program point = next_in never_first program point.paragraph point.rest
 
+-- the way, if it is there
 abbrev pub flattened : {A : Type 0} → Option (Option A) → Option A
 flattened None = None
 flattened (Some way) = way
@@ -126,6 +138,7 @@ flattened (Some way) = way
 abbrev pub way_at : {A : Type 0} → List (Option A) → ℕ → Option A
 way_at ways number = flattened (slice_get ways number)
 
+-- there is no way
 abbrev pub no_way : {A : Type 0} → List (Option A) → Bool
 no_way [] = true
 no_way (None ∷ ways) = no_way ways

@@ -9,6 +9,7 @@ use Rattle.program_points.specs.declared.point_table.table.ProgramPoint.{Program
 use Rattle.program_points.specs.declared.point_table.table.ProgramPoint.TheVariants.{Goes, Chooses, Calls, Stops, Ends}
 use Rattle.program_points.specs.declared.point_table.table.Table.{Table}
 
+-- each of these ways leads to a number below this one
 abbrev pub AllBelow : ℕ → List (Option ℕ) → Type 0
 AllBelow most [] = Unit {0}
 AllBelow most (None ∷ ways) = AllBelow most ways
@@ -30,15 +31,20 @@ Describes table points (Ends paragraph) now = now ≡ lang.Ends paragraph
 -- the table's places are the program's, each at this point of it
 pub record IsTable (never_first : Chooser → Bool) (program : Program) (table : Table) (points : ℕ →
     Point) : Type 0 where
+  -- a paragraph's place is its start
   pub starts : (paragraph place : ℕ) → slice_get table.starts paragraph ≡ Some place →
       (points place ≡ start program paragraph) × (place < length table.places)
       × (is_paragraph program paragraph ≡ true)
+  -- each paragraph has one
   pub started : (paragraph : ℕ) → is_paragraph program paragraph ≡ true → (place : ℕ)
       × (slice_get table.starts paragraph ≡ Some place)
+  -- each place says what control does at its point
   pub places : (number : ℕ) (place : ProgramPoint) → slice_get table.places number ≡ Some place →
       Describes table points place (next never_first program (points number))
+  -- and is in its paragraph
   pub owned : (number : ℕ) (place : ProgramPoint) → slice_get table.places number ≡ Some place →
       slice_get table.owners number ≡ Some (points number).paragraph
+  -- each range begins with a paragraph of the program
   pub entries : (number : ℕ) (range : Range) → slice_get table.ranges number ≡ Some range →
       is_paragraph program range.entry ≡ true
 
@@ -63,18 +69,19 @@ abbrev pub ReturnsHere : Table → List Bool → Range → Type 0
 ReturnsHere table returns range = (place : ℕ) × (paragraph : ℕ) × ComesIn table returns range place
     × (slice_get table.places place ≡ Some (Ends paragraph)) × (is_exit range.exit paragraph ≡ true)
 
--- each range that is said to return does
+-- each range that is marked as returning does return
 abbrev pub IsSound : (Chooser → Bool) → Program → Table → List Bool → Type 0
 IsSound never_first program table returns = (number : ℕ) (range : Range) →
     slice_get table.ranges number ≡ Some range → slice_get returns number ≡ Some true →
     ReturnsIn never_first program range
 
--- each range that comes to its return where these return is among these
+-- each range that comes to its return, where these return, is among these
 abbrev pub IsClosed : Table → List Bool → Type 0
 IsClosed table returns = (number : ℕ) (range : Range) →
     slice_get table.ranges number ≡ Some range → ReturnsHere table returns range →
     slice_get returns number ≡ Some true
 
+-- each number in a place is one of the table's places, ranges or paragraphs
 abbrev pub IsTidyPlace : Table → ProgramPoint → Type 0
 IsTidyPlace table (Goes to) = to < length table.places
 IsTidyPlace table (Chooses ways) = AllBelow (length table.places) ways
@@ -85,10 +92,13 @@ IsTidyPlace table (Ends paragraph) = paragraph < length table.starts
 
 -- each number in a table is one of its places, ranges or paragraphs
 pub record IsTidy (table : Table) : Type 0 where
+  -- the numbers in each place are known
   pub places : (number : ℕ) (place : ProgramPoint) → slice_get table.places number ≡ Some place →
       IsTidyPlace table place
+  -- each paragraph has a place
   pub starts : (paragraph place : ℕ) → slice_get table.starts paragraph ≡ Some place →
       place < length table.places
   pub size : length table.owners ≡ length table.places
+  -- each place is in a paragraph
   pub owners : (number owner : ℕ) → slice_get table.owners number ≡ Some owner →
       owner < length table.starts

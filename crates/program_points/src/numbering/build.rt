@@ -16,7 +16,7 @@ use cob_base::{Items, NoMemory};
 use cob_tree::{Arms, Control, FileEntry, Range, Stmt, When};
 use std::alloc::Global;
 
-/// Places so far, and the ranges that they perform.
+/// The places so far, and the ranges that they perform.
 #[derive(Debug, Drop)]
 pub struct Builder {
     pub places: Vec<ProgramPoint>,
@@ -25,15 +25,15 @@ pub struct Builder {
     pub count: u32,
 }
 
-/// The paragraph in which statements stand, and the last one of its section.
+/// The paragraph of some statements, and the last one of its section.
 #[derive(Clone, Copy, Debug, PartialEq, Eq)]
 pub struct Here {
     pub number: u32,
     pub last: u32,
 }
 
-/// Where control goes on behind statements: behind them, behind their sentence, and behind the
-/// innermost loop around them or at its next turn.
+/// Where control goes on from statements: after them, after their sentence, and after the innermost
+/// loop around them or at its next turn.
 #[derive(Clone, Copy, Debug, PartialEq, Eq)]
 pub struct Exits {
     pub after: u32,
@@ -43,7 +43,7 @@ pub struct Exits {
 }
 
 impl Exits {
-    /// The exits of the body of a loop that turns at this place.
+    /// The exits of the body of a loop whose next turn begins at this place.
     pub fn inside(self, turn: u32) -> Exits
         ensures { result ≡ inside self turn }
     {
@@ -55,7 +55,7 @@ impl Exits {
         }
     }
 
-    /// The same exits behind statements that begin at this place.
+    /// The same exits, for what comes before statements that begin at this place.
     pub fn behind(self, place: u32) -> Exits
         ensures { result ≡ after_at self place }
     {
@@ -85,8 +85,7 @@ impl Builder {
         Ok(number as u32)
     }
 
-    /// The number of a range: where ranges stand in their order it is found by halving, and any
-    /// other is added.
+    /// The number of a range: it is found by binary search, and a range that isn't there is added.
     pub fn range_number(&mut self, range: Range) -> Result<u32, NoMemory>
         ensures number { IfOk result
             (λ number. slice_get self.new.ranges.items number ≡ Some range) }
@@ -130,7 +129,7 @@ impl Builder {
         }
     }
 
-    /// Adds a place with two ways, of which the first may be never taken.
+    /// Adds a place with two ways, the first of which is missing where `barred` says so.
     pub fn choose_two(
         &mut self,
         alloc: Global,
@@ -166,7 +165,7 @@ impl Builder {
         self.add(ProgramPoint::Chooses(all))
     }
 
-    /// Tells what is left of a loop, and adds the loop.
+    /// Completes a loop, whose body has been added, and answers where it begins.
     pub fn close_loop(
         &mut self,
         alloc: Global,
@@ -197,7 +196,7 @@ impl Builder {
         }
     }
 
-    /// The place of a PERFORM of paragraphs without loop.
+    /// The place of a PERFORM of paragraphs without a loop.
     pub fn build_call(
         &mut self,
         here: Here,

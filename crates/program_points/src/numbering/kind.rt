@@ -1,4 +1,4 @@
-//! What of loops and files control depends on.
+//! The properties of loops and files on which control depends.
 
 ghost use Rattle.std.specs.Prelude.{◌≡◌, option_map};
 ghost use Rattle.control_flow_theory.specs.language.Control.{control_in};
@@ -11,13 +11,13 @@ use cob_tree::{Control, FileEntry};
 pub enum LoopStart {
     /// At its test, or at its count.
     Before,
-    /// At its first test, behind which each test comes after the augmenting ADD.
+    /// At its first test; each later test comes after the augmenting ADD.
     Again,
     /// At its body.
     After,
 }
 
-/// Where the loop of a control begins; none of `Once`.
+/// Where the loop of a control begins; none for `Once`.
 pub fn kind_of(control: &Control) -> Option<LoopStart>
     ensures { result ≡ option_map kind_in (control_in control.now) }
 {
@@ -37,7 +37,7 @@ pub fn kind_of(control: &Control) -> Option<LoopStart>
     }
 }
 
-/// Whether the file has no status item, so that its end ends the run where no AT END stands.
+/// Whether the file has no status item, so that its end ends the run where there is no AT END.
 pub fn is_silent(files: &[FileEntry], file: u32) -> bool
     ensures { result ≡ is_silent files.now file }
 {

@@ -12,7 +12,7 @@ use cob_tree::{FileEntry, Sentence};
 use std::alloc::Global;
 
 impl Builder {
-    /// The place at which sentences begin that are all of a paragraph, or its last ones.
+    /// The place at which the last sentences of a paragraph, or all of them, begin.
     pub fn build_rest(
         &mut self,
         alloc: Global,

@@ -2,8 +2,8 @@
 
 ghost use Rattle.program_points.specs.paths.Laws.{PathsAreLevels, AcceptedIsFaulty, FaultyHasTrail};
 
-/// A free path comes to a point exactly where levels stand one on the other and the top one comes
-/// there.
+/// A free path comes to a point exactly where there are levels, each called by the one before, and
+/// the last one comes there.
 pub fn paths_are_levels()
     ensures { PathsAreLevels }
 {}

@@ -32,8 +32,8 @@ pub struct Hop {
 #[derive(Debug, Drop)]
 pub struct Trail {
     pub fault: FlowFault,
-    /// Each may step over the ranges of those before it.
+    /// The lemmas; each may step over the ranges of those before it.
     pub lemmas: Items<Lemma>,
-    /// From main to the level where the fault is.
+    /// The hops, from main to the level where the fault is.
     pub hops: Items<Hop>,
 }

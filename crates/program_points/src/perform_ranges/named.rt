@@ -17,7 +17,7 @@ fn add_range(found: &mut Vec<Range>, entry: u32, exit: u32) -> Result<(), NoMemo
     Ok(())
 }
 
-/// Adds those that the statement names.
+/// Adds the ranges that the statement names.
 #[cycle(named)]
 fn named_stmt(found: &mut Vec<Range>, stmt: &Stmt) -> Result<(), NoMemory>
     ensures { OnOk result (found.new.items ≡ found.old.items ++ named_stmt stmt.now) }
@@ -61,7 +61,7 @@ fn named_arms(found: &mut Vec<Range>, arms: &Arms) -> Result<(), NoMemory>
     }
 }
 
-/// Adds those that the statements name.
+/// Adds the ranges that the statements name.
 #[cycle(named)]
 pub fn named_stmts(found: &mut Vec<Range>, stmts: &Items<Stmt>) -> Result<(), NoMemory>
     ensures { OnOk result (found.new.items ≡ found.old.items ++ named_stmts stmts.now) }
@@ -91,7 +91,7 @@ fn named_paragraph(found: &mut Vec<Range>, paragraph: &Paragraph) -> Result<(), 
     Ok(())
 }
 
-/// Adds those that the paragraphs name.
+/// Adds the ranges that the paragraphs name.
 pub fn named_paragraphs(found: &mut Vec<Range>, paragraphs: &[Paragraph]) -> Result<(), NoMemory>
     ensures { OnOk result (found.new.items ≡ found.old.items ++ named_paragraphs paragraphs.now) }
 {

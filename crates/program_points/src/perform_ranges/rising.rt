@@ -8,7 +8,7 @@ use cob_base::NoMemory;
 use cob_tree::{Program, Range};
 use std::alloc::Global;
 
-/// Whether a range stands before another: main before all, then by entry, then by exit.
+/// Whether a range comes before another: main before all, then by entry, then by exit.
 pub fn is_before(range: Range, other: Range) -> bool
     ensures { result ≡ is_before range other }
 {
@@ -23,7 +23,7 @@ pub fn is_before(range: Range, other: Range) -> bool
     }
 }
 
-/// Where a range stands among ranges in their order, or where it would stand.
+/// The place of a range among ranges in their order, or where it would be.
 pub fn place_of(ranges: &[Range], range: Range) -> usize
     ensures { result ≤ length ranges.now }
 {
@@ -40,9 +40,9 @@ pub fn place_of(ranges: &[Range], range: Range) -> usize
     low
 }
 
-/// Adds a range behind the last one, unless it is that one.
+/// Adds a range after the last one, unless it is that one.
 ///
-/// Err where memory is wanted, and where it is to stand before that one.
+/// Err where memory runs out, and where the range belongs before the last one.
 fn add_behind(ranges: &mut Vec<Range>, last: Range, range: Range) -> Result<(), NoMemory>
     ensures { OnOk result (IsBehind ranges.old.items ranges.new.items last range) }
 {
@@ -56,9 +56,9 @@ fn add_behind(ranges: &mut Vec<Range>, last: Range, range: Range) -> Result<(), 
     Ok(())
 }
 
-/// Main and the ranges, each once, where they stand in their order.
+/// Main and the ranges, each once, where they are in order.
 ///
-/// Err where memory is wanted, and where they don't.
+/// Err where memory runs out, and where they aren't in order.
 pub fn rising_of(alloc: Global, sorted: &[Range]) -> Result<Vec<Range>, NoMemory>
     ensures { IfOk result (λ ranges. IsRisingOf sorted.now ranges.items) }
 {
@@ -87,7 +87,7 @@ pub fn ranges_of(alloc: Global, program: &Program) -> Result<Vec<Range>, NoMemor
     Ok(ranges)
 }
 
-/// By entry, then by exit.
+/// The sort key of a range: by entry, then by exit.
 fn sort_key(range: Range) -> (u32, Option<u32>)
     ensures { result ≡ (range.entry, range.exit) }
 {

@@ -10,15 +10,15 @@ pub enum ProgramPoint {
     Goes(u32),
     /// It goes on to one of these; a missing arm has none.
     Chooses(Items<Option<u32>>),
-    /// It performs the range with this number, and goes on there after the return.
+    /// It performs the range with this number, and goes on at `after` when that has returned.
     Calls { range: u32, after: u32 },
     Stops,
     /// It is at the end of this paragraph.
     Ends(u32),
 }
 
-/// The places of a program, the paragraph in which each of them stands, where each paragraph
-/// starts, and main and the ranges that its PERFORM statements name.
+/// The places of a program, the paragraph of each, the place where each paragraph starts, and main
+/// and the ranges that its PERFORM statements name.
 #[derive(Debug, Drop)]
 pub struct Table {
     pub places: Items<ProgramPoint>,

@@ -9,14 +9,14 @@ use cob_base::NoMemory;
 use cob_tree::Range;
 use std::alloc::Global;
 
-/// A builder, and the paragraph in which each of its places stands.
+/// A builder, and the paragraph of each of its places.
 #[derive(Debug, Drop)]
 pub struct Numbering {
     pub builder: Builder,
     pub owners: Vec<u32>,
 }
 
-/// A place for the start of each of so many paragraphs, and behind them one for the end of each.
+/// A place for the start of each of so many paragraphs, and after these one for the end of each.
 pub fn first_places(alloc: Global, count: u32) -> Result<Vec<ProgramPoint>, NoMemory>
     ensures { IfOk result (λ places. HasEnds count places.items) }
 {
@@ -44,7 +44,7 @@ pub fn numbers_twice(alloc: Global, count: u32) -> Result<Vec<u32>, NoMemory>
     Ok(owners)
 }
 
-/// A numbering of so many paragraphs, that knows these ranges.
+/// A numbering of so many paragraphs, which begins with these ranges.
 pub fn begun(alloc: Global, count: u32, ranges: Vec<Range>) -> Result<Numbering, NoMemory>
     ensures places { IfOk result (λ it. HasEnds count it.builder.places.items) }
     ensures owners { IfOk result (λ it. CountsTwice count it.owners.items) }

@@ -33,7 +33,8 @@ pub fn numbers(alloc: Global, count: u32) -> Result<Items<u32>, NoMemory>
     Ok(starts)
 }
 
-/// The table of what was numbered. Err too where a range's entry isn't there.
+/// The table of a finished numbering. Err where memory runs out, and where a range's entry isn't
+/// there.
 pub fn finished(alloc: Global, numbering: Numbering) -> Result<Table, NoMemory>
     ensures places { IfOk result (λ table. table.places ≡ numbering.builder.places.items) }
     ensures owners { IfOk result (λ table. table.owners ≡ numbering.owners.items) }

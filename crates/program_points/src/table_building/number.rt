@@ -1,4 +1,4 @@
-//! The paragraphs of a program, from the last one back.
+//! The paragraphs of a program, numbered from the last to the first.
 
 ghost use Rattle.std.specs.Prelude.{◌≡◌, ◌<◌, suc, drop, length, IfOk, OnOk};
 ghost use Rattle.control_flow_theory.specs.language.Control.{control_of, section_last, seen_paragraphs};
@@ -31,7 +31,7 @@ pub fn last_of(paragraphs: &[Paragraph], number: u32, next: u32) -> u32
     next
 }
 
-/// Adds the places of the paragraphs, where those of their starts and ends stand.
+/// Adds the places of the paragraphs, once those of their starts and ends are there.
 pub fn build_paragraphs(
     numbering: &mut Numbering,
     alloc: Global,
@@ -66,9 +66,9 @@ pub fn build_paragraphs(
     Ok(())
 }
 
-/// The places of a program, with these ranges and no others.
+/// The table of a program, with these ranges and no others.
 ///
-/// Err where memory is wanted, where a PERFORM names none of the ranges, and where the program or
+/// Err where memory runs out, where a PERFORM names none of the ranges, and where the program or
 /// one of the ranges names a paragraph that isn't there.
 pub fn table_of(alloc: Global, program: &Program, ranges: Vec<Range>) -> Result<Table, NoMemory>
     ensures table { IfOk result (λ table. HasTable (never_first_of program.now.files)

@@ -12,7 +12,7 @@ use cob_base::{Items, NoMemory};
 use cob_tree::{FileEntry, Sentence};
 use std::alloc::Global;
 
-/// A place like this one.
+/// A copy of this place.
 pub fn copied(alloc: Global, place: &ProgramPoint) -> Result<ProgramPoint, NoMemory>
     ensures { IfOk result (λ copy. copy ≡ place.now) }
 {
@@ -31,7 +31,7 @@ pub fn copied(alloc: Global, place: &ProgramPoint) -> Result<ProgramPoint, NoMem
     }
 }
 
-/// Says of the places up to this number that they stand in this paragraph.
+/// Notes that the places up to this number belong to this paragraph.
 pub fn own(owners: &mut Vec<u32>, until: usize, number: u32) -> Result<(), NoMemory>
     requires { length owners.old.items ≤ until }
     ensures { OnOk result (Extends owners.old.items owners.new.items until number) }
@@ -65,7 +65,7 @@ pub fn build_paragraph(
         ≡ length numbering.new.builder.places.items) }
 {
     let begin = numbering.builder.build_rest(alloc, files, here, sentences)?;
-    // It always is behind: a paragraph begins at a place of its own, or at that of its end.
+    // It always comes later: a paragraph begins at a place of its own, or at that of its end.
     if begin <= here.number || begin as usize >= numbering.builder.places.len() {
         return Err(NoMemory);
     }

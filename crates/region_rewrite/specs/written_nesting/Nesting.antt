@@ -5,7 +5,7 @@ use Rattle.control_flow_theory.specs.language.Language.{Picker, If, By, ByCell, 
 
 -- Where it is empty, the first or a later arm of READ or arithmetic may be left out: AT END where
 -- the source lacks it, and NOT AT END and NOT ON SIZE ERROR always. The others choose with an arm
--- that always stands, so what they leave out makes no level less.
+-- that is always there, so what they leave out makes no level less.
 abbrev pub leaves_out : Picker → Bool → Bool
 leaves_out (If test) first = false
 leaves_out (By (Evaluate subject tests has_other)) first = false
@@ -14,6 +14,7 @@ leaves_out (By (Arith calc into)) first = not first
 leaves_out (By (Depending on names)) first = false
 leaves_out (ByCell cell) first = false
 
+-- there is no statement
 abbrev pub is_nothing : Stmts → Bool
 is_nothing none = true
 is_nothing (also first others) = false
@@ -23,10 +24,12 @@ abbrev pub arm_level : Bool → Bool → ℕ → ℕ
 arm_level out nothing deep = if out then (if nothing then 0 else suc deep) else suc deep
 
 abbrev mutual
+  -- how deep these statements nest
   pub nesting : Stmts → ℕ
   nesting none = 0
   nesting (also first others) = max (stmt_nesting first) (nesting others)
 
+  -- how deep a statement nests
   pub stmt_nesting : Stmt → ℕ
   stmt_nesting (Do act) = 0
   stmt_nesting (Choose picker arms) = arms_nesting picker true arms
@@ -40,6 +43,7 @@ abbrev mutual
   stmt_nesting (ExitPerform cycle) = 0
   stmt_nesting StopRun = 0
 
+  -- how deep a loop's body nests, a level more than its statements
   pub body_nesting : Body → ℕ
   body_nesting (Nested stmts) = suc (nesting stmts)
   body_nesting (Performed entry exit) = 0

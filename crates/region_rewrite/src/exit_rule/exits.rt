@@ -22,7 +22,7 @@ use std::alloc::Global;
 use std::collections::VecDeque;
 use tree_rules::{Targets, other_targets};
 
-/// A bare return behind the other trees, where there is to be one, in room that is there.
+/// Adds a bare return after the other trees, where there is to be one; there is room for it.
 fn push_return(alloc: Global, trees: &mut Vec<Tree>, returns: bool)
     requires { vec_len trees.old < vec_capacity trees.old }
     ensures { map seen_tree trees.new.items ≡ map seen_tree trees.old.items
@@ -36,7 +36,7 @@ fn push_return(alloc: Global, trees: &mut Vec<Tree>, returns: bool)
     }
 }
 
-/// The bare targets in order, a return last, in room that is there.
+/// The bare targets in order, a return last; there is room for them.
 fn bare(alloc: Global, targets: &[Label], returns: bool, room: Vec<Tree>) -> Items<Tree>
     requires none { vec_len room ≡ 0 }
     requires enough { length targets.now + 1 ≤ vec_capacity room }

@@ -9,7 +9,7 @@ use branch_tree::{End, Label, Tree};
 use cob_base::{Items, NoMemory};
 use std::alloc::Global;
 
-/// Puts a label among labels that rise, once.
+/// Inserts a label into labels in ascending order, unless it is there.
 fn insert_label(labels: &mut Vec<Label>, label: Label) -> Result<(), NoMemory>
     ensures { OnOk result (labels.new.items ≡ inserted label labels.old.items) }
 {
@@ -26,7 +26,7 @@ fn insert_label(labels: &mut Vec<Label>, label: Label) -> Result<(), NoMemory>
     Ok(())
 }
 
-/// The targets of the jumps but those to the label, with those that were found before.
+/// Adds the targets of the tree's jumps, except the label, to those that were found before.
 #[cycle(targets)]
 fn add_targets(tree: &Tree, label: Label, found: &mut Vec<Label>) -> Result<(), NoMemory>
     ensures { OnOk result (found.new.items
@@ -58,7 +58,7 @@ fn add_arms(arms: &[Tree], label: Label, found: &mut Vec<Label>) -> Result<(), N
     Ok(())
 }
 
-/// The labels but this one that the tree's jumps go to, in label order.
+/// The labels other than this one to which the tree jumps, in label order.
 pub fn targets_of(alloc: Global, tree: &Tree, label: Label) -> Result<Items<Label>, NoMemory>
     ensures { Makes (targets_of label (seen_tree tree.now)) result }
 {

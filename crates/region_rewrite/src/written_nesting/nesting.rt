@@ -34,7 +34,7 @@ fn chooser_leaves_out(chooser: &Chooser, first: bool) -> bool
     }
 }
 
-/// The level of an arm of statements so deep, which may be left out where there is nothing in it.
+/// The nesting of an arm whose statements nest so deep; the arm may be left out where it is empty.
 fn level(out: bool, nothing: bool, deep: u32) -> u32
     ensures { result ≡ min (arm_level out nothing deep) (2 ^ 32 - 1) }
 {
@@ -95,7 +95,7 @@ fn is_nothing(body: &VecDeque<Piece>) -> bool
     body.is_empty()
 }
 
-/// Whether there is nothing in the tree within the loop.
+/// Whether the tree is nothing within the loop.
 fn tree_is_nothing(leaves: &Leaves, tree: &Tree) -> bool
     ensures { result ≡ is_nothing (stated leaves.now (seen_tree tree.now)) }
 {
@@ -115,15 +115,15 @@ fn last_is_nothing(end: &End) -> bool
     }
 }
 
-/// Whether there is nothing in an arm that became statements.
+/// Whether an arm that became statements is empty.
 fn arm_is_nothing(tree: &Tree) -> bool
     ensures { result ≡ is_nothing (arm_stmts (seen_tree tree.now)) }
 {
     both(is_nothing(&tree.body), last_is_nothing(&tree.end))
 }
 
-/// How deep the statements of a body nest as they are written, 0 where none holds statements; past
-/// the last number of the type that number.
+/// How deep the statements of a body nest as they are written, 0 where none holds statements; at
+/// most the largest `u32`.
 #[cycle(nesting)]
 pub fn body_nesting(body: &VecDeque<Piece>) -> u32
     ensures { result ≡ min (nesting (seen_body body.now.items)) (2 ^ 32 - 1) }

@@ -6,7 +6,7 @@ ghost use Rattle.region_rewrite.specs.written_nesting.Own.{own_nesting, arms_own
 use cob_base::Items;
 use cob_tree::{Arms, Stmt, When};
 
-/// How deep the statement nests; past the last number of the type that number.
+/// How deep the statement nests; at most the largest `u32`.
 #[cycle(own)]
 pub fn own_nesting(stmt: &Stmt) -> u32
     ensures { result ≡ min (own_nesting stmt.now) (2 ^ 32 - 1) }

@@ -13,7 +13,7 @@ use Rattle.cobol_run.specs.Own.{IsOwn}
 use Rattle.file_model.specs.operations.Seen.{Seen}
 use Rattle.control_flow_theory.proofs.language_lemmas.OwnStatements.{paragraphs-own}
 use Rattle.end_to_end_laws.proofs.read_programs_lemmas.named_reading_lemmas.Whole.{read-named}
-use Rattle.restructure_core.specs.run.Answers.{CameOf, CameOver, Comes, ComesOver}
+use Rattle.restructure_core.specs.run.Answers.{CameOf, CameOver, Comes, ComesOver, StaysAsWas}
 
 pub comes_of : (bytes : List ℕ) (program : Program) (steps : ℕ) (sink : SinkCall) (answer : Came) → Reads bytes program → CameOf program steps sink answer → Comes bytes steps sink answer
 comes_of bytes program steps sink (came.Ran other ran) reads h = subst (λ p. Reads bytes p × (is_plain p ≡ true → (files : Files) → RunsAs p files steps sink ran)) (sym h.0) (reads, h.1)
@@ -26,7 +26,7 @@ read-own bytes program reads = paragraphs-own 0 program.paragraphs (read-named b
 
 pub comes_over : (bytes : List ℕ) (program : Program) (steps : ℕ) (sink : SinkCall) (left left_now : ℕ) (old new : List Seen) (answer : Came) → Reads bytes program → CameOver program steps sink left left_now old new answer → ComesOver bytes steps sink left left_now old new answer
 comes_over bytes program steps sink left left_now old new (came.Ran other ran) reads h =
-    subst (λ p. Reads bytes p × IsOwn p × RunEnds p steps sink left left_now old new ran) (sym h.0) (reads, read-own bytes program reads, h.1)
+    subst (λ p. Reads bytes p × IsOwn p × RunEnds p steps sink left left_now old new ran × (is_plain p ≡ true → StaysAsWas left left_now old new)) (sym h.0) (reads, read-own bytes program reads, h.1, h.2)
 comes_over bytes program steps sink left left_now old new (came.Refused refusal) reads h = h
 comes_over bytes program steps sink left left_now old new came.NoMemory reads h = h
 

@@ -17,7 +17,7 @@ use Rattle.restructure_core.specs.declared.run.Came.{Came}
 use Rattle.restructure_core.specs.declared.run.Came.TheVariants as came
 
 -- what comes of a program: its run, which over all files is this one where no statement on files
--- stands in it, or nothing that a sink sees
+-- is in it, or nothing that a sink sees
 abbrev pub CameOf : Program → ℕ → SinkCall → Came → Type 0
 CameOf program steps sink (came.Ran other ran) =
     (other ≡ program)
@@ -44,13 +44,15 @@ abbrev pub CameOver : Program → ℕ → SinkCall → (left left_now : ℕ) →
     Type 0
 CameOver program steps sink left left_now old new (came.Ran other ran) =
     (other ≡ program) × RunEnds program steps sink left left_now old new ran
+    × (is_plain program ≡ true → StaysAsWas left left_now old new)
 CameOver program steps sink left left_now old new _ = StaysAsWas left left_now old new
 
--- the same of the program that the bytes are, in which no word on an added item stands
+-- the same of the program that the bytes are, without a word on an added item
 abbrev pub ComesOver : List ℕ → ℕ → SinkCall → (left left_now : ℕ) → (old new : List Seen) → Came →
     Type 0
 ComesOver bytes steps sink left left_now old new (came.Ran program ran) =
     Reads bytes program × IsOwn program × RunEnds program steps sink left left_now old new ran
+    × (is_plain program ≡ true → StaysAsWas left left_now old new)
 ComesOver bytes steps sink left left_now old new _ = StaysAsWas left left_now old new
 
 -- the sink failed while the program displayed

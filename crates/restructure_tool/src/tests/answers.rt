@@ -1,11 +1,11 @@
-//! Each answer with its line, and a failure of each call of source and sinks.
+//! Each answer with its line, and a failure of each call of the source and the sinks.
 
 use super::calls::{Case, PLAIN, check, check_all};
 use super::sources::*;
 use restructure_asks::Status;
 use std::test::Fail;
 
-/// The words are no ask.
+/// The words aren't an ask.
 const USAGE: Case = Case {
     words: &[],
     status: Status::Usage,
@@ -18,7 +18,7 @@ const ANSWERS: [Case; 16] = [
     Case { piece: 1, ..PLAIN },
     Case {
         words: &["--version"],
-        out: "restructure_tool 0.1.0\nproved with rattle-kit-13f logic dac8208d650f15bf\n",
+        out: "Tumgaiba 0.1.0 (restructure_tool)\nproved with rattle-kit-13b logic dac8208d650f15bf\n",
         ..PLAIN
     },
     Case {
@@ -73,7 +73,7 @@ const ANSWERS: [Case; 16] = [
         notes: "READ FAULT\n",
         ..PLAIN
     },
-    // the call that is to tell the end
+    // the call that is to answer the end
     Case {
         read_fails: 2,
         status: Status::ReadFault,
@@ -100,7 +100,7 @@ const ANSWERS: [Case; 16] = [
         out: "",
         ..PLAIN
     },
-    // the call behind the last one of a sink
+    // the call after the last one of a sink
     Case {
         piece: 40,
         write_fails: 6,

@@ -1,4 +1,4 @@
-//! A call over a source and sinks in memory, and what it has to give.
+//! A call over a source and sinks in memory, and what it has to answer.
 
 use super::sources::{HELLO, HELLO_RESULT};
 use cob_base::{MemSink, MemSource, Source, Text};
@@ -7,7 +7,7 @@ use restructure_asks::{Status, program, tool};
 use std::alloc::{AllocError, Global};
 use std::process::Abort;
 
-/// What a call has to give.
+/// What a call has to answer and write.
 #[derive(Clone, Copy)]
 pub struct Wanted<'a> {
     pub status: Status,
@@ -15,7 +15,7 @@ pub struct Wanted<'a> {
     pub notes: &'a [u8],
 }
 
-/// What the program is called with, and what it has to give.
+/// What the program is called with, and what it has to answer and write.
 #[derive(Clone, Copy)]
 pub struct Case {
     pub words: &'static [&'static str],
@@ -52,12 +52,14 @@ struct Ends {
     notes: MemSink,
 }
 
+/// A text with these characters.
 pub fn text(alloc: Global, text: &str) -> Result<Text, AllocError> {
     Ok(Text {
         bytes: text.as_bytes().to_vec(alloc)?,
     })
 }
 
+/// These words, as the command line has them.
 pub fn words(alloc: Global, words: &[&str]) -> Result<Vec<String>, AllocError> {
     let mut all = Vec::new(alloc);
     for word in words {
@@ -116,14 +118,14 @@ fn answer(alloc: Global, words: Vec<String>, ends: &mut Ends) -> Status {
     )
 }
 
-/// What was answered and written is what is wanted.
+/// What was answered and written is as expected.
 pub fn expect(rt: &impl Abort, status: Status, out: &MemSink, notes: &MemSink, wanted: Wanted) {
     assert_eq!(rt; status, wanted.status);
     assert!(rt; out.held.as_slice() == wanted.out);
     assert_eq!(rt; notes.held.as_slice(), wanted.notes);
 }
 
-/// The program gives what the case wants.
+/// The program does what the case expects.
 pub fn check(rt: &impl Abort, alloc: Global, case: &Case) -> Result<(), AllocError> {
     let words = words(alloc, case.words)?;
     let mut ends = outside_of(alloc, case)?;
@@ -137,7 +139,7 @@ pub fn check(rt: &impl Abort, alloc: Global, case: &Case) -> Result<(), AllocErr
     Ok(())
 }
 
-/// The program gives what each case wants.
+/// The program does what each case expects.
 pub fn check_all(rt: &impl Abort, alloc: Global, cases: &[Case]) -> Result<(), AllocError> {
     for case in cases {
         check(rt, alloc, case)?;
@@ -145,7 +147,7 @@ pub fn check_all(rt: &impl Abort, alloc: Global, cases: &[Case]) -> Result<(), A
     Ok(())
 }
 
-/// The top call gives what is wanted, into sinks that never fail.
+/// The top call does what is expected, over sinks that never fail.
 pub fn expect_of_tool<S: Source>(
     rt: &impl Abort,
     alloc: Global,

@@ -9,7 +9,7 @@ use std::alloc::{AllocError, Global};
 use std::process::Abort;
 use std::test::Fail;
 
-/// What stands before the files of a program.
+/// What comes before the files of a program.
 const HEAD: &str = "       IDENTIFICATION DIVISION.
        PROGRAM-ID. T.
        ENVIRONMENT DIVISION.
@@ -17,7 +17,7 @@ const HEAD: &str = "       IDENTIFICATION DIVISION.
        FILE-CONTROL.
 ";
 
-/// What stands between its files and its statements.
+/// What comes between its files and its statements.
 const RECORD: &str = "       DATA DIVISION.
        FILE SECTION.
        FD F.
@@ -139,7 +139,7 @@ const TOTAL: &str = "TOTAL 000042000 SKIPPED 0001\n";
 
 const FAULT: &str = "DEVICE FAULT DISK\n";
 
-// A device with one file, the call of that number failing; 0 is none.
+// A device with one file, of which the call with that number fails; 0 is none.
 fn device(
     alloc: Global,
     name: &str,
@@ -295,14 +295,15 @@ fn each_call_of_a_device_may_fail(rt: HostRuntime) -> Result<(), Fail> {
     Ok(())
 }
 
-// The file of the list, which call of the disk fails, what is told, how many devices are left, and
-// which of them then has the list.
+// The file of the list, which call of the disk fails, what is answered, how many devices are left,
+// and which of them then has the list.
 const LISTS: [(&str, u64, Told, usize, usize); 2] = [
     ("LIST.DAT", 0, (Status::Done, TOTAL, ""), 2, 0),
     ("OUT:LIST.DAT", 3, (Status::DeviceFault, "", FAULT), 1, 0),
 ];
 
-// A device with the hours, the call of that number failing, and one whose fourth call fails.
+// A device with the hours, of which the call with that number fails, and one whose fourth call
+// fails.
 fn disk_and_out(alloc: Global, failing: u64) -> Result<Bench, AllocError> {
     let disk = device(alloc, "DISK", ("PAY.DAT", PAY), failing)?;
     let mut devices: Vec<Box<dyn Device>> = Vec::new(alloc);
@@ -331,7 +332,7 @@ fn a_listing_goes_to_its_device(rt: HostRuntime) -> Result<(), Fail> {
         assert_eq!(rt; bench.left, left);
         assert!(rt; at < bench.devices.len());
         let held = &mut *bench.devices[at];
-        // It had three calls, so that the next one fails where the fourth is to.
+        // It had three calls, so the next one fails where the fourth is to fail.
         if left == 1 {
             assert!(rt; held.open_file(b"LIST.DAT", How::Input) == Opened::Failed);
         }
@@ -340,7 +341,7 @@ fn a_listing_goes_to_its_device(rt: HostRuntime) -> Result<(), Fail> {
     Ok(())
 }
 
-// The listing goes to a device of which that call fails: OPEN, WRITE or CLOSE.
+// The list goes to a device of which that call fails: OPEN, WRITE or CLOSE.
 #[test]
 fn a_failed_call_leaves_what_was_done(rt: HostRuntime) -> Result<(), Fail> {
     let alloc = rt.alloc();

@@ -1,4 +1,4 @@
-//! Other sources and sinks, and want of memory for the words.
+//! Other sources and sinks, and no memory for the words.
 
 use super::calls::{Wanted, ample, bare, expect_of_tool, words};
 use super::sources::{HELLO, HELLO_RESULT};
@@ -73,7 +73,7 @@ fn a_page_is_asked_of_the_program_alone(rt: HostRuntime) -> Result<(), Fail> {
     Ok(())
 }
 
-/// A writer that takes all and can't keep it, as a device that is full.
+/// A writer that takes all bytes and fails at flush, as a device that is full.
 #[derive(Drop)]
 struct Full;
 
@@ -87,7 +87,7 @@ impl Write for Full {
     }
 }
 
-// The words are answered over standard streams of which the output is full.
+// The words are answered over standard streams whose output is full.
 fn expect_full(rt: &impl Abort, alloc: Global, words: Vec<String>) {
     let mut source = StdSource::new(HELLO.as_bytes());
     let mut out = StdSink::new(Full);

@@ -1,5 +1,6 @@
 //! Sources, and what is written of them.
 
+/// A program with a jump.
 pub const HELLO: &str = "       IDENTIFICATION DIVISION.
        PROGRAM-ID. HELLO.
        PROCEDURE DIVISION.
@@ -13,6 +14,7 @@ pub const HELLO: &str = "       IDENTIFICATION DIVISION.
            STOP RUN.
 ";
 
+/// What HELLO is restructured to.
 pub const HELLO_RESULT: &str = "       IDENTIFICATION DIVISION.
        PROGRAM-ID. HELLO.
        PROCEDURE DIVISION.
@@ -22,6 +24,7 @@ pub const HELLO_RESULT: &str = "       IDENTIFICATION DIVISION.
            STOP RUN.
 ";
 
+/// A program that never ends.
 pub const ENDLESS: &str = "       IDENTIFICATION DIVISION.
        PROGRAM-ID. T.
        PROCEDURE DIVISION.
@@ -29,6 +32,7 @@ pub const ENDLESS: &str = "       IDENTIFICATION DIVISION.
            GO TO A.
 ";
 
+/// What ENDLESS is restructured to.
 pub const ENDLESS_RESULT: &str = "       IDENTIFICATION DIVISION.
        PROGRAM-ID. T.
        DATA DIVISION.
@@ -42,6 +46,7 @@ pub const ENDLESS_RESULT: &str = "       IDENTIFICATION DIVISION.
            STOP RUN.
 ";
 
+/// The report of HELLO.
 pub const HELLO_REPORT: &str = "PROGRAM HELLO
 PARAGRAPHS 3
 RANGES 1
@@ -54,6 +59,7 @@ STATES 0
 EXITS 0
 ";
 
+/// The generated program of 1.
 pub const GENERATED: &str = "       IDENTIFICATION DIVISION.
        PROGRAM-ID. GEN-1.
        DATA DIVISION.
@@ -83,6 +89,7 @@ pub const GENERATED: &str = "       IDENTIFICATION DIVISION.
            EXIT.
 ";
 
+/// The report of GENERATED.
 pub const GENERATED_REPORT: &str = "PROGRAM GEN-1
 PARAGRAPHS 5
 RANGES 2
@@ -94,11 +101,13 @@ STATES 1
 EXITS 0
 ";
 
+/// A source whose last line has no line feed.
 pub const UNENDED: &str = "       identification division.
        Program-Id. T.
       * a comment, and then no line feed
        PROCEDURE DIVISION. A. DISPLAY 'I''S' STOP RUN.";
 
+/// What UNENDED is restructured to.
 pub const UNENDED_RESULT: &str = "       IDENTIFICATION DIVISION.
        PROGRAM-ID. T.
        PROCEDURE DIVISION.
@@ -107,6 +116,7 @@ pub const UNENDED_RESULT: &str = "       IDENTIFICATION DIVISION.
            STOP RUN.
 ";
 
+/// A structured program with a PERFORM.
 pub const PERFORMING: &str = "       IDENTIFICATION DIVISION.
        PROGRAM-ID. T.
        PROCEDURE DIVISION.
@@ -117,6 +127,7 @@ pub const PERFORMING: &str = "       IDENTIFICATION DIVISION.
            DISPLAY \"B\".
 ";
 
+/// What PERFORMING is restructured to.
 pub const PERFORMING_RESULT: &str = "       IDENTIFICATION DIVISION.
        PROGRAM-ID. T.
        PROCEDURE DIVISION.
@@ -127,6 +138,7 @@ pub const PERFORMING_RESULT: &str = "       IDENTIFICATION DIVISION.
            DISPLAY \"B\".
 ";
 
+/// A program that performs a range that is pending.
 pub const REENTERING: &str = "       IDENTIFICATION DIVISION.
        PROGRAM-ID. T.
        PROCEDURE DIVISION.
@@ -134,6 +146,7 @@ pub const REENTERING: &str = "       IDENTIFICATION DIVISION.
            PERFORM A.
 ";
 
+/// A program with ranges that overlap.
 pub const OVERLAPPING: &str = "       IDENTIFICATION DIVISION.
        PROGRAM-ID. T.
        DATA DIVISION.
@@ -155,6 +168,7 @@ pub const OVERLAPPING: &str = "       IDENTIFICATION DIVISION.
            DISPLAY \"E\".
 ";
 
+/// The trail of OVERLAPPING.
 pub const OVERLAPPING_NOTES: &str = "FLOW OVERLAP C
 RETURN 0 E THRU E:
 IN MAIN: INTO
@@ -162,6 +176,7 @@ IN A THRU C: OVER 0 ARM 1 INTO
 IN D THRU D:
 ";
 
+/// A program that jumps out of a loop by TIMES.
 pub const COUNTING: &str = "       IDENTIFICATION DIVISION.
        PROGRAM-ID. T.
        DATA DIVISION.
@@ -178,6 +193,7 @@ pub const COUNTING: &str = "       IDENTIFICATION DIVISION.
            STOP RUN.
 ";
 
+/// A program that reads a letter as a digit.
 pub const UNDIGITAL: &str = "       IDENTIFICATION DIVISION.
        PROGRAM-ID. T.
        DATA DIVISION.
@@ -188,6 +204,7 @@ pub const UNDIGITAL: &str = "       IDENTIFICATION DIVISION.
        A. DISPLAY X. ADD 1 TO Y.
 ";
 
+/// A program with a subscript outside its bounds.
 pub const OUTSIDE: &str = "       IDENTIFICATION DIVISION.
        PROGRAM-ID. T.
        DATA DIVISION.

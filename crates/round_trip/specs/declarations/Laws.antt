@@ -21,7 +21,7 @@ Declares program draft =
     × (declared_of draft
     ≡ record { files = program.files; entries = program.entries; fault = None })
 
--- the files and entries of such a program stand in sections so that they keep the rules
+-- the files and entries of such a program are in sections so that they keep the rules
 abbrev pub DeclaredProgramsKeepRules : Type 0
 DeclaredProgramsKeepRules =
     (program : Program) (draft : Divisions) → data_literal draft.data_part ≡ true →
@@ -29,11 +29,13 @@ DeclaredProgramsKeepRules =
     ≡ record { files = program.files; entries = program.entries; fault = None } →
     (fds : List Fd) × (storage : List Entry) × KeepsRules program fds storage
 
--- its entries stand in such sections that what is printed before the PROCEDURE DIVISION spells
+-- its entries are in such sections that what is printed before the PROCEDURE DIVISION spells
 -- drafts that declare the program's files and entries again
 pub record ReadBack (status : Form Place) (taken : ℕ) (program : Program) : Type 0 where
   pub fds : List Fd
   pub storage : List Entry
+  -- the entries are in these sections
   pub sorted : IsSorted fds storage program.entries
+  -- what is printed spells such drafts
   pub spelled : Spelled (divisions status) taken (divisions_kinds program fds storage)
       BeforeProcedures (Declares program)

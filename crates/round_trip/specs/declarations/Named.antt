@@ -12,19 +12,25 @@ use Rattle.program_facts.specs.well_scoped.Part.{if_any}
 use Rattle.parser_combinators.specs.words.Word.{is_data_word}
 use Rattle.round_trip.specs.spelling.data_spelling.Printable.{SpellsStatus}
 
+-- the file's name may be a name
 abbrev pub file_titled : FileEntry → Bool
 file_titled file = is_data_word file.name
 
+-- the entry's name, if it has one, may be a name
 abbrev pub entry_titled : Entry → Bool
 entry_titled entry = if_any is_data_word entry.name
 
+-- a value, or each end of a range of values, is a literal
 abbrev pub span_literal : Span → Bool
 span_literal span = is_literal span.from && if_any is_literal span.to
 
+-- the values of an entry are literals
 abbrev pub values_literal : Entry → Bool
 values_literal entry = if_any is_literal entry.value && all (map span_literal entry.ranges)
 
+-- each name of the program may be a name, and its values are literals
 pub record IsTitled (program : Program) : Type 0 where
+  -- the program's own name
   pub title : is_data_word program.name ≡ true
   pub files : all (map file_titled program.files) ≡ true
   pub entries : all (map entry_titled program.entries) ≡ true

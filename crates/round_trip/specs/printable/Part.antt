@@ -20,9 +20,11 @@ is_printable_name name = fits_word name && bytes_eq (folded name) name && is_dat
 
 -- ---- what each part asks of those below it
 
+-- one level of a place or expression, in which each part is the answer to whether it can be printed
 abbrev pub Layer : (Type 0 → Type 0 → Type 0 → Type 0 → Type 0 → Type 0) → Type 0
 Layer F = F Bool Bool Bool Bool Bool
 
+-- one level of an expression
 abbrev pub expr_step : Layer Expr-F → Bool
 expr_step (Expr-F.Leaf operand) = operand
 expr_step (Expr-F.Minus inner) = inner
@@ -35,40 +37,50 @@ operand_step (Operand-F.Number number) = number_named number
 operand_step (Operand-F.Text text) = is_printable_text text
 operand_step (Operand-F.Figure figure) = true
 
--- the name of its item is that of an entry; those behind OF are names too
+-- one level of a place can be printed: the names after OF are names, and so with its subscripts and
+-- window
 abbrev pub place_step : Layer Place-F → Bool
 place_step place = all (map is_printable_name place.of) && all place.subs && if_there place.window
 
+-- one level of a subscript
 abbrev pub sub_step : Layer Sub-F → Bool
 sub_step sub = number_named sub.plus && if_there sub.base
 
+-- one level of a window
 abbrev pub window_step : Layer Window-F → Bool
 window_step window = window.from && if_there window.«length»
 
 -- ---- whole places and expressions
 
+-- a place
 abbrev pub is_printable_place : Place → Bool
 is_printable_place =
     fold-Place Bool Bool Bool Bool Bool expr_step operand_step place_step sub_step window_step
 
+-- an operand
 abbrev pub is_printable_operand : Operand → Bool
 is_printable_operand =
     fold-Operand Bool Bool Bool Bool Bool expr_step operand_step place_step sub_step window_step
 
+-- an expression
 abbrev pub is_printable_expr : Expr → Bool
 is_printable_expr =
     fold-Expr Bool Bool Bool Bool Bool expr_step operand_step place_step sub_step window_step
 
+-- a subscript
 abbrev pub is_printable_sub : Sub → Bool
 is_printable_sub =
     fold-Sub Bool Bool Bool Bool Bool expr_step operand_step place_step sub_step window_step
 
+-- a window
 abbrev pub is_printable_window : Window → Bool
 is_printable_window =
     fold-Window Bool Bool Bool Bool Bool expr_step operand_step place_step sub_step window_step
 
+-- these places
 abbrev pub are_printable_places : List Place → Bool
 are_printable_places places = all (map is_printable_place places)
 
+-- these operands
 abbrev pub are_printable_operands : List Operand → Bool
 are_printable_operands operands = all (map is_printable_operand operands)

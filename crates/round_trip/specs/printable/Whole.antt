@@ -19,25 +19,28 @@ use Rattle.round_trip.specs.printable.Statement.{are_printable_sentences}
 
 -- ---- files and entries
 
+-- a file, with its ASSIGN and status item
 abbrev pub is_printable_file : FileEntry → Bool
 is_printable_file file =
     is_printable_name file.name && is_printable_text file.assign
     && if_any is_printable_place file.status
 
--- a number has 1 to 18 digits, a text up to 65,535 characters
+-- a picture can be printed: a number has 1 to 18 digits, a text up to 65,535 characters
 abbrev pub is_printable_picture : Picture → Bool
 is_printable_picture (pictures.Number signed whole part) =
     nat_le 1 (whole + part) && nat_le (whole + part) 18
 is_printable_picture (pictures.Letters count) = nat_le 1 count && nat_le count 65535
 is_printable_picture (pictures.Any count) = nat_le 1 count && nat_le count 65535
 
+-- a value or a range of values can be printed
 abbrev pub is_printable_span : Span → Bool
 is_printable_span span = is_printable_operand span.from && if_any is_printable_operand span.to
 
--- what OCCURS counts has at most 18 digits
+-- what OCCURS counts can be printed: it has at most 18 digits
 abbrev pub is_printable_count : ℕ → Bool
 is_printable_count count = nat_lt count (10 ^ 18)
 
+-- an entry can be printed
 abbrev pub is_printable_entry : Entry → Bool
 is_printable_entry entry =
     nat_lt entry.level 100 && if_any is_printable_name entry.name
@@ -46,11 +49,12 @@ is_printable_entry entry =
 
 -- ---- paragraphs
 
--- the name of a paragraph or a section, which may be digits, where it has one
+-- the name of a paragraph or a section, which may be digits, can be printed, where it has one
 abbrev pub IfNamed : Option (List ℕ) → Type 0
 IfNamed None = Unit {0}
 IfNamed (Some name) = IsHeaderName name
 
+-- a paragraph
 pub record IsPrintableParagraph (paragraph : Paragraph) : Type 0 where
   pub name : IfNamed paragraph.name
   pub section : IfNamed paragraph.section
@@ -58,6 +62,7 @@ pub record IsPrintableParagraph (paragraph : Paragraph) : Type 0 where
 
 -- ---- all of it
 
+-- a program
 pub record IsPrintableProgram (program : Program) : Type 0 where
   pub name : is_printable_name program.name ≡ true
   pub files : all (map is_printable_file program.files) ≡ true

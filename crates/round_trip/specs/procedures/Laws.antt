@@ -22,7 +22,7 @@ use Rattle.round_trip.specs.procedures.Outline.{AreOutlined, HaveNamesAlone, Has
 use Rattle.round_trip.specs.procedures.Own.{AreHeaders, AreLabelled, IsReadWith, without_indices}
 use Rattle.round_trip.specs.procedures.Told.{own_procedures}
 
--- Tokens of the kinds that the paragraphs are printed with tell exactly these, behind so many
+-- Tokens of the kinds that the paragraphs are printed with tell exactly these, after so many
 -- tokens, where the paragraphs are spelled over any table.
 abbrev pub PrintedProceduresAreTold : Type 0
 PrintedProceduresAreTold =
@@ -54,6 +54,7 @@ ReadProceduresAreOwn =
     (division (parts_of names entries (procedures_of p.rest p.taken))).reads p ≡ Got found q →
     q.fault ≡ None → IsReadWith (procedures_of p.rest p.taken) found
 
+-- names that can be printed may be names of paragraphs and sections
 abbrev pub PrintableNamesAreTitles : Type 0
 PrintableNamesAreTitles =
     (paragraphs : List Paragraph) → Each IsPrintableParagraph paragraphs → AreTitled paragraphs

@@ -7,6 +7,7 @@ use Rattle.unparser.specs.Token.{procedure_token}
 use Rattle.symbol_tables.specs.procedure_names.Procedures.{header_name}
 use Rattle.cobol_grammar.specs.Name.{is_capital_word}
 
+-- the name, if there is one
 abbrev pub own_name : Option (List ℕ) → List (List ℕ)
 own_name None = []
 own_name (Some name) = name ∷ []
@@ -17,7 +18,7 @@ own_names [] = []
 own_names (paragraph ∷ paragraphs) =
     own_name paragraph.section ++ (own_name paragraph.name ++ own_names paragraphs)
 
--- none stands twice
+-- none comes twice
 abbrev pub AreDifferent : List (List ℕ) → Type 0
 AreDifferent [] = Unit {0}
 AreDifferent (name ∷ names) =
@@ -25,13 +26,16 @@ AreDifferent (name ∷ names) =
 
 -- a name that a paragraph or section may have
 pub record IsTitle (name : List ℕ) : Type 0 where
+  -- it is read as such a name
   pub named : header_name (procedure_token name) ≡ Some name
   pub capital : is_capital_word name ≡ true
 
+-- the name, if there is one, may be such a name
 abbrev pub IfTitle : Option (List ℕ) → Type 0
 IfTitle None = Unit {0}
 IfTitle (Some name) = IsTitle name
 
+-- the names of these paragraphs and of their sections are such names
 abbrev pub AreTitled : List Paragraph → Type 0
 AreTitled [] = Unit {0}
 AreTitled (paragraph ∷ paragraphs) =

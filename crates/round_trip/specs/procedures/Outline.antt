@@ -6,12 +6,13 @@ use Rattle.program_facts.specs.well_scoped.Part.{is_filled}
 use Rattle.round_trip.specs.spelling.stmt_spelling.Division.{is_bare_by}
 use Rattle.round_trip.specs.procedures.Names.{own_names, AreDifferent, AreTitled}
 
--- behind a section of which nothing else is printed only a section may follow
+-- the paragraph may come next: after a section of which nothing else is printed only a section may
 abbrev pub MayFollow : (bare : Bool) → (name section : Option (List ℕ)) → Type 0
 MayFollow bare None None = ⊥
 MayFollow bare (Some name) None = bare ≡ false
 MayFollow bare name (Some section) = Unit {0}
 
+-- nothing is printed of the paragraph but the header of its section
 abbrev pub is_bare : Paragraph → Bool
 is_bare paragraph = is_bare_by paragraph.name paragraph.section paragraph.sentences
 
@@ -40,8 +41,11 @@ HaveNamesAlone (paragraph ∷ paragraphs) =
     (((name : List ℕ) × (paragraph.name ≡ Some name)) × (paragraph.section ≡ None))
     × HaveNamesAlone paragraphs
 
--- and their names are names of headers, of which none stands twice
+-- and their names are names of headers, of which none comes twice
 pub record HasProcedures (program : Program) : Type 0 where
+  -- its paragraphs are told apart by their headers
   pub outlined : AreOutlined program.paragraphs
+  -- their names may be names of headers
   pub titled : AreTitled program.paragraphs
+  -- no name comes twice
   pub different : AreDifferent (own_names program.paragraphs)

@@ -10,30 +10,34 @@ use Rattle.symbol_tables.specs.declared.procedure_names.scan.Scan.{Scan}
 use Rattle.symbol_tables.specs.declared.procedure_names.table.ProcedureTable.{ProcedureTable}
 use Rattle.symbol_tables.specs.procedure_names.Procedures.{start, section_headed, paragraph_headed, unheaded, closed}
 
+-- the header of a section, if there is one
 abbrev pub section_told : Option (List ℕ) → (index : ℕ) → Scan → Scan
 section_told None index scan = scan
 section_told (Some section) index scan = section_headed section index scan
 
+-- how many tokens there are, with that header
 abbrev pub behind_section : Option (List ℕ) → (index : ℕ) → ℕ
 behind_section None index = index
 behind_section (Some section) index = index + 3
 
+-- the name of a paragraph, if it has one
 abbrev pub name_told : Option (List ℕ) → (index : ℕ) → Scan → Scan
 name_told None index scan = scan
 name_told (Some name) index scan = paragraph_headed name index scan
 
+-- sentences, if there are any
 abbrev pub sentences_told : List Sentence → Scan → Scan
 sentences_told [] scan = scan
 sentences_told (sentence ∷ sentences) scan = unheaded false scan
 
--- a paragraph, behind so many tokens
+-- a paragraph, after so many tokens
 abbrev pub paragraph_told : (name section : Option (List ℕ)) → List Sentence → (index : ℕ) →
     Scan → Scan
 paragraph_told name section sentences index scan =
     sentences_told sentences
     (name_told name (behind_section section index) (section_told section index scan))
 
--- each behind the tokens of those before it
+-- each after the tokens of those before it
 abbrev pub paragraphs_told : Program → List Paragraph → (index : ℕ) → Scan → Scan
 paragraphs_told program [] index scan = scan
 paragraphs_told program (paragraph ∷ paragraphs) index scan =
@@ -41,6 +45,6 @@ paragraphs_told program (paragraph ∷ paragraphs) index scan =
     (index + length (all_tokens (paragraph_units program paragraph)))
     (paragraph_told paragraph.name paragraph.section paragraph.sentences index scan)
 
--- all of a program, before whose paragraphs so many tokens stand
+-- all of a program, before whose paragraphs there are so many tokens
 abbrev pub own_procedures : Program → (taken : ℕ) → ProcedureTable
 own_procedures program taken = closed (paragraphs_told program program.paragraphs taken start)

@@ -8,8 +8,10 @@ use Rattle.round_trip.specs.spelled_forms.Spelling.{Any, Spelled}
 
 -- a name is spelled by its word, and a literal in quotation marks by its token
 pub record TextsAreSpelled : Type 0 where
+  -- a name
   pub names : (taken : ℕ) (word : List ℕ) → is_data_word word ≡ true →
       Spelled name taken (kinds.Word word ∷ []) Any (λ found. found.0 ≡ word)
+  -- a literal
   pub texts : (taken : ℕ) (text : List ℕ) →
       Spelled literal taken (kinds.Literal text ∷ []) Any
       (λ found. found.0 ≡ operands.Text text)

@@ -1,4 +1,4 @@
--- What is kept of operands, expressions and records as they are read: what stands in the tree for
+-- What is kept of operands, expressions and records as they are read: what is in the tree for
 -- them, and what the names of their program tell of them.
 use Rattle.std.specs.Prelude.{ℕ, ◌≡◌, []}
 use Rattle.cob_tree.specs.declared.program.Program.{Program}
@@ -14,9 +14,12 @@ use Rattle.round_trip.specs.spelling.stmt_spelling.Part.{Kept}
 module _ (names : Names) (program : Program) where
   -- a record that is written, by its name alone
   pub record IsEntrySide (entry : ℕ) (side : Side) : Type 0 where
+    -- it is the record's name
     pub what : side.what ≡ whats.Ref (bare_place entry)
+    -- of the kind that the names tell
     pub kind : side.kind ≡ kind_of (reference names program entry [])
 
+  -- what is kept of each of them
   abbrev pub kept_of : Kept Side
   kept_of = record {
     operand = λ operand side. IsOperandSide names program operand side;

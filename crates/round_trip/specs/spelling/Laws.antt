@@ -25,6 +25,7 @@ use Rattle.round_trip.specs.spelling.Kept.{kept_of}
 use Rattle.round_trip.specs.spelling.Named.{IsNamedFile, IsNamedRecord, IsHeader, IsLabel, IsRange}
 use Rattle.round_trip.specs.spelling.Use.{OperandIsFree, ExprIsFree}
 
+-- what is kept of a part says what is in the tree for it
 abbrev pub PartsOfAreTold : Type 0
 PartsOfAreTold =
     (names : Names) (entries : List Entry) (table : ProcedureTable) (program : Program) →
@@ -63,6 +64,7 @@ pub record PartsAreSpelled : Type 0 where
   pub header : (names : Names) (entries : List Entry) (table : ProcedureTable)
       (program : Program) (name : List ℕ) (taken : ℕ) → IsHeader table name taken →
       SpellsHeader (parts_of names entries table) (kept_of names program) program name taken
+  -- what counts an inline PERFORM
   pub turns : (names : Names) (entries : List Entry) (table : ProcedureTable)
       (program : Program) (count : Operand) → IsPrintableOperand names program count →
       OperandHasRoom true 501 0 count →

@@ -21,8 +21,10 @@ module _ (names : Names) (program : Program) where
   -- a file, found by its name
   pub record IsNamedFile (file : ℕ) : Type 0 where
     pub entry : FileEntry
+    -- the file has this number
     pub there : slice_get program.files file ≡ Some entry
     pub word : is_data_word entry.name ≡ true
+    -- its name finds it
     pub found : look_file names entry.name ≡ Some file
 
   -- a record of a file, found by its name alone
@@ -30,15 +32,20 @@ module _ (names : Names) (program : Program) where
     pub word : is_data_word (item_name program entry) ≡ true
     pub kind : ItemKind
     pub dims : ℕ
+    -- its name finds it
     pub found : reference names program entry [] ≡ found.Item entry kind dims
+    -- it is a record of a file
     pub is : is_record entries entry ≡ true
 
--- a name that a paragraph or section may have, and the header behind so many tokens is the first that
--- has it
+-- a name that a paragraph or section may have, and the header after so many tokens is the first
+-- that has it
 pub record IsHeader (table : ProcedureTable) (name : List ℕ) (taken : ℕ) : Type 0 where
+  -- the name may be that of a paragraph or section
   pub named : header_name (procedure_token name) ≡ Some name
   pub header : Header
+  -- this is the first header of that name
   pub found : header_of table name ≡ Some header
+  -- it comes after so many tokens
   pub index : header.index ≡ taken
 
 module _ (table : ProcedureTable) (program : Program) where
@@ -46,12 +53,17 @@ module _ (table : ProcedureTable) (program : Program) where
   pub record IsLabel (number : ℕ) (span : ℕ × ℕ) : Type 0 where
     pub name : List ℕ
     pub tokens : label_tokens program number ≡ procedure_token name ∷ []
+    -- the label may be the name of a paragraph or section
     pub named : header_name (procedure_token name) ≡ Some name
+    -- the procedure of that name has this entry and exit
     pub found : procedure_of table name ≡ Some span
 
   -- the labels of its first and last paragraphs name what begins and ends there
   pub record IsRange (entry exit : ℕ) : Type 0 where
+    -- where what begins at the entry ends
     pub last : ℕ
     pub first_label : IsLabel entry (entry, last)
+    -- a range of one paragraph is named by one label
     pub alone : (entry == exit) ≡ true → last ≡ exit
+    -- of any other the second label names what ends at the exit
     pub last_label : (entry == exit) ≡ false → (first : ℕ) × IsLabel exit (first, exit)

@@ -21,7 +21,7 @@ use Rattle.round_trip.specs.spelling.cond_spelling.Printable.{kinds_suit}
 use Rattle.round_trip.specs.spelling.Kept.{IsEntrySide, kept_of}
 use Rattle.round_trip.specs.spelling.expr_spelling.Spelled.{IsExprSide, IsOperandSide}
 
--- such a value may be moved to such a receiver, wherever they stand
+-- such a value may be moved to such a receiver, wherever they are
 abbrev pub MayMove : ExprContent → (from to : ValueKind) → Type 0
 MayMove make from to = (position : Position) → moved_fault make from to position ≡ None
 
@@ -33,40 +33,48 @@ MayCompare subject other =
 module _ (names : Names) (entries : List Entry) (table : ProcedureTable) (program : Program) where
   -- no fault of these uses is noted of an operand
   pub record OperandIsFree (operand : Operand) : Type 0 where
+    -- as a value, unless it is a name of level 88
     pub value : not (is_condition (judged_operand names program operand).kind) ≡ true →
         Without (parts_of names entries table) (kept_of names program) program
         (λ side. value_fault side) operand
+    -- as a number, where it is one
     pub number : is_number (judged_operand names program operand).kind ≡ true →
         Without (parts_of names entries table) (kept_of names program) program
         (λ side. number_fault side) operand
+    -- as a number without decimals, where it is one
     pub whole : is_counting (judged_operand names program operand).kind ≡ true →
         Without (parts_of names entries table) (kept_of names program) program
         (λ side. whole_fault side) operand
+    -- as a name of level 88, where it is one
     pub condition : is_condition (judged_operand names program operand).kind ≡ true →
         Without (parts_of names entries table) (kept_of names program) program
         (λ side. condition_fault side) operand
-    -- READ INTO
+    -- as the place of INTO, where the records of the file may be moved to it
     pub into : (file : ℕ) → MayMove makes.Item (record_kind entries file)
         (judged_operand names program operand).kind →
         Without (parts_of names entries table) (kept_of names program) program
         (λ side. into_fault entries (Some file) side) operand
+    -- where it is moved to what it may be moved to
     pub moves : (to : Operand) → MayMove (judged_operand names program operand).make
         (judged_operand names program operand).kind (judged_operand names program to).kind →
         MovesTo (parts_of names entries table) (kept_of names program) program operand to
-    -- WRITE or REWRITE FROM
+    -- where it is moved to a record that it may be moved to, by WRITE or REWRITE FROM
     pub writes : (entry : ℕ) → MayMove (judged_operand names program operand).make
         (judged_operand names program operand).kind (kind_of (reference names program entry [])) →
         (side other : Side) → IsOperandSide names program operand side →
         IsEntrySide names program entry other → move_fault side other ≡ None
 
-  -- the same of an expression
+  -- no fault of these uses is noted of an expression
   pub record ExprIsFree (expr : Expr) : Type 0 where
+    -- as a value, unless it is a name of level 88
     pub value : not (is_condition (judged_expr names program expr).kind) ≡ true →
         WithoutExpr (parts_of names entries table) (kept_of names program) program
         (λ side. value_fault side) expr
+    -- as a number, where it is one
     pub number : is_number (judged_expr names program expr).kind ≡ true →
         WithoutExpr (parts_of names entries table) (kept_of names program) program
         (λ side. number_fault side) expr
+    -- beside a subject of EVALUATE with which it may be compared
     pub compares : (other : Expr) →
         MayCompare (judged_expr names program expr) (judged_expr names program other) →
         (side next : Side) → IsExprSide names program expr side →

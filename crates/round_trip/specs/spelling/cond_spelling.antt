@@ -1,6 +1,6 @@
 -- Which conditions can be printed.
 pub mod Printable
--- What stands behind them.
+-- What follows them.
 pub mod Behind
 -- What holds of them.
 pub mod Laws

@@ -1,4 +1,4 @@
--- What may stand behind statements and their parts.
+-- What may follow statements and their parts.
 pub mod Behind
 -- What the parts of statements are to spell.
 pub mod Part

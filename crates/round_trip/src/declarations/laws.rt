@@ -9,13 +9,13 @@ ghost use Rattle.grammar_laws.specs.well_scoped.named_data.Drafts.{data_literal}
 
 use cobol_grammar::data_forms::Refers;
 
-/// Its files and entries keep the rules.
+/// The files and entries of what divisions declare with no fault keep the rules.
 pub fn declared_programs_keep_rules()
     ensures { DeclaredProgramsKeepRules }
 {}
 
-/// What is printed of it spells drafts that declare the same, where names may be names, values are
-/// literals, and status items are spelled by their tokens.
+/// What is printed of a program that divisions declare with no fault spells drafts that declare the
+/// same, where names are valid, values are literals, and status items are spelled by their tokens.
 pub fn printed_declarations_read_back<R: Refers>()
     ensures { (taken : ℕ) (program : Program) (draft : Divisions) →
         data_literal draft.data_part ≡ true → Declares program draft → IsTitled program →

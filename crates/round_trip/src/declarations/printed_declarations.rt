@@ -3,7 +3,7 @@
 
 ghost use Rattle.round_trip.specs.declarations.printed_declarations.Laws.{PrintedDivisionsDeclare};
 
-/// They declare the program's files and entries, with no fault.
+/// Drafts that say of a program's files and entries what these are declare them, with no fault.
 pub fn printed_divisions_declare()
     ensures { PrintedDivisionsDeclare }
 {}

@@ -1,5 +1,5 @@
-//! What is written of a program whose statements pass tests passes tests too, as far as its control
-//! goes: each part of it may be written, what is written of such parts passes, and so do statements
+//! The control of what is written of a program whose statements pass tests passes tests too: each
+//! part of the program may be written, what is written of such parts passes, and so do statements
 //! whose control does. Nothing here runs.
 
 ghost use Rattle.round_trip.specs.fitting_statements.fit_control.Laws.{ControlTellsFit, FitSourcesAreServed, FitSourcesAreSound, WrittenSentencesFit};
@@ -9,7 +9,7 @@ pub fn fit_sources_are_served()
     ensures { FitSourcesAreServed }
 {}
 
-/// VARYING begins with a number there, and an EVALUATE has two arms.
+/// In a program whose statements fit VARYING begins with a number, and an EVALUATE has two arms.
 pub fn fit_sources_are_sound()
     ensures { FitSourcesAreSound }
 {}
@@ -19,7 +19,7 @@ pub fn written_sentences_fit()
     ensures { WrittenSentencesFit }
 {}
 
-/// Statements whose control fits do.
+/// Statements fit where their control does.
 pub fn control_tells_fit()
     ensures { ControlTellsFit }
 {}

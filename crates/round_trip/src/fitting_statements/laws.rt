@@ -23,7 +23,7 @@ ghost use Rattle.round_trip.specs.spelling.stmt_spelling.Stmt.{SpellsList};
 use crate::spelling::stmt_spelling::Keeps;
 use cobol_grammar::stmt_forms::Made;
 
-/// What is asked of each token of a source.
+/// What is required of each token of a source.
 pub trait Asks {
     ghost kind: { tokens.TokenKind → Type 0 };
 }
@@ -33,8 +33,8 @@ pub trait Tests {
     ghost fits: { Fits };
 }
 
-/// Where parts that pass a test spell what is asked for its use, one statement or more that fit, are
-/// in scope and nest at most so deep spell what is printed of them.
+/// Where parts that pass a test spell what its use requires, one statement or more that fit, are in
+/// scope and nest at most so deep spell what is printed of them.
 pub fn fit_statements_spell<Side, Known, P: Made<Side, Known>, K: Keeps<Side>, T: Tests>()
     ensures { (program : tree.Program) → FitsSpell P.parts K.kept program T.fits →
         (levels : ℕ) (scope : scopes.Scope) (list : List tree_stmt.Stmt) →
@@ -43,7 +43,7 @@ pub fn fit_statements_spell<Side, Known, P: Made<Side, Known>, K: Keeps<Side>, T
         SpellsList P.parts K.kept program (suc levels) scope list }
 {}
 
-/// The same of the sentences of a paragraph, which may be an EXIT that is alone.
+/// The same for the sentences of a paragraph, which may be an EXIT that is alone.
 pub fn fit_sentences_spell<Side, Known, P: Made<Side, Known>, K: Keeps<Side>, T: Tests>()
     ensures { (program : tree.Program) → FitsSpell P.parts K.kept program T.fits →
         (scope : scopes.Scope) (sentences : List tree_sentence.Sentence) →
@@ -51,15 +51,15 @@ pub fn fit_sentences_spell<Side, Known, P: Made<Side, Known>, K: Keeps<Side>, T:
         SpellsSentences P.parts K.kept program scope sentences }
 {}
 
-/// Where what the parts give with no fault noted passes the tests, the statements of a division that
-/// is read with no fault fit, are in scope, and nest no deeper than they may.
+/// Where what the parts give with no fault noted passes the tests, the statements of a division
+/// that is read with no fault fit, are in scope, and nest within the limit.
 pub fn read_statements_fit<Side, Known, A: Asks, R: Made<Side, Known>, K: Keeps<Side>, T: Tests>()
     ensures { PartsAreLawful R.parts → PartsFit R.parts K.kept T.fits A.kind →
         Gives A.kind (division R.parts) (FitParagraphs T.fits false) }
 {}
 
-/// Paragraphs whose sentences fit pass as a whole: each statement in them does, an EXIT that is alone
-/// too.
+/// Paragraphs whose sentences fit pass as a whole: each statement in them does, an EXIT that is
+/// alone too.
 pub fn fit_paragraphs_pass<T: Tests>()
     ensures { (in_section : Bool) (paragraphs : List tree_paragraph.Paragraph) →
         FitParagraphs T.fits in_section paragraphs → are_fit_paragraphs T.fits paragraphs ≡ true }

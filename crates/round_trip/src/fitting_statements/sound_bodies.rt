@@ -1,6 +1,6 @@
-//! What a source is restructured to keeps what is asked of its bodies: each VARYING begins with
-//! such a statement as those of the source do, and each choice by a cell has two arms. Nothing here
-//! runs.
+//! What a source is restructured to keeps what is required of its bodies: each VARYING begins with
+//! a statement of the kind that the source's begin with, and each choice by a cell has two arms.
+//! Nothing here runs.
 
 ghost use Rattle.round_trip.specs.fitting_statements.sound_bodies.Laws.{ProceduresAreSound, RulesKeepSoundness};
 
@@ -9,7 +9,7 @@ pub fn rules_keep_soundness()
     ensures { RulesKeepSoundness }
 {}
 
-/// So are the procedures of a source that is.
+/// The procedures of a sound source are sound.
 pub fn procedures_are_sound()
     ensures { ProceduresAreSound }
 {}

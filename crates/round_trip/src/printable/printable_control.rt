@@ -1,6 +1,6 @@
-//! What is written of a program that can be printed can be printed, as far as its control goes:
-//! each part of it may be written, what is written of such parts can be printed, and so can
-//! statements whose control can. Nothing here runs.
+//! The control of what is written of a program that can be printed can be printed: each part of the
+//! program may be written, what is written of such parts can be printed, and so can statements
+//! whose control can. Nothing here runs.
 
 ghost use Rattle.round_trip.specs.printable.printable_control.Laws.{ControlTellsPrinting, PrintableSourcesAreServed, WrittenSentencesPrint};
 

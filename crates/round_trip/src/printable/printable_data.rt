@@ -11,8 +11,8 @@ ghost use Rattle.round_trip.specs.printable.printable_data.Laws.{EntriesArePrint
 
 use cobol_grammar::data_forms::Refers;
 
-/// Of tokens that can be printed, and status items that can be, the names and values of drafts can
-/// be printed.
+/// Where tokens and status items can be printed, the names and values of the drafts that are read
+/// can be.
 pub fn divisions_print<R: Refers>()
     ensures { Gives IsPrintable R.status (λ place. is_printable_place place ≡ true) →
         Gives IsPrintable (divisions R.status) ArePrintable }

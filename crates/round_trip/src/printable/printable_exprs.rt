@@ -3,7 +3,8 @@
 
 ghost use Rattle.round_trip.specs.printable.printable_exprs.Laws.{ExpressionsArePrintable};
 
-/// Of tokens that can be printed, references, operands, expressions and conditions can be printed.
+/// Where tokens can be printed, the references, operands, expressions and conditions that are read
+/// can be.
 pub fn expressions_are_printable()
     ensures { ExpressionsArePrintable }
 {}

@@ -1,5 +1,5 @@
-//! Statements and paragraphs that are read of tokens that can be printed can be printed, over open
-//! forms of operands and conditions. Nothing here runs.
+//! Statements and paragraphs that are read from tokens that can be printed can be printed, over
+//! open forms of operands and conditions. Nothing here runs.
 
 ghost use Rattle.grammar_laws.specs.form_results.Giving.{Each, Gives};
 ghost use Rattle.round_trip.specs.printable.Whole.{IsPrintableParagraph};

@@ -1,4 +1,4 @@
-//! What the paragraphs of a program tell of its procedures. These functions do nothing; their
+//! The procedures that the paragraphs of a program declare. These functions do nothing; their
 //! contracts are laws.
 
 ghost use Rattle.round_trip.specs.procedures.Laws.{
@@ -10,23 +10,25 @@ ghost use Rattle.round_trip.specs.procedures.Laws.{
   NamedParagraphsAreOutlined,
 };
 
-/// The tokens that paragraphs are printed with tell the table that the paragraphs tell themselves.
+/// The tokens with which paragraphs are printed declare the table that the paragraphs themselves
+/// declare.
 pub fn printed_procedures_are_told()
     ensures { PrintedProceduresAreTold }
 {}
 
-/// In that table the name of each header is found where the header is printed.
+/// In the table that paragraphs declare the name of each header is found where the header is
+/// printed.
 pub fn printed_headers_are_own()
     ensures { PrintedHeadersAreOwn }
 {}
 
-/// In that table the labels that stand for what a source names name the same.
+/// In the table that paragraphs declare the labels of what a source names name the same.
 pub fn printed_labels_are_own()
     ensures { PrintedLabelsAreOwn }
 {}
 
-/// The tokens of a source tell that table too, but for places, where no fault is noted; then no
-/// name stands twice.
+/// The tokens of a source declare that table too, except for places, where no fault is noted; then
+/// all names are different.
 pub fn read_procedures_are_own()
     ensures { ReadProceduresAreOwn }
 {}
@@ -36,7 +38,7 @@ pub fn printable_names_are_titles()
     ensures { PrintableNamesAreTitles }
 {}
 
-/// Paragraphs that all have names, and no sections, are told apart by their headers.
+/// Paragraphs that all have names, and no sections, are distinguished by their headers.
 pub fn named_paragraphs_are_outlined()
     ensures { NamedParagraphsAreOutlined }
 {}

@@ -1,8 +1,7 @@
-//! A PROCEDURE DIVISION that is read with no fault has in its sentences and paragraphs what they
-//! are to have to be spelled by what is printed of them, over open parts: those by which it is
-//! read, and those by which what is printed is read again
-//! (`specs/procedures/readable_stmts/Fit.antt`). Headers stand apart
-//! (`specs/procedures/readable_stmts/Body.antt`). Nothing here runs.
+//! The sentences and paragraphs of a PROCEDURE DIVISION that is read with no fault have what they
+//! need to be spelled by what is printed of them, over open parts: those by which it is read, and
+//! those by which what is printed is read again (`specs/procedures/readable_stmts/Fit.antt`).
+//! Headers are treated separately (`specs/procedures/readable_stmts/Body.antt`). Nothing here runs.
 
 ghost use Rattle.std.specs.Prelude.{ℕ, List};
 ghost use Rattle.cob_tree.specs.declared.program.Paragraph as tree_paragraph;
@@ -18,13 +17,13 @@ ghost use Rattle.round_trip.specs.spelling.stmt_spelling.Division.{SpellsDivisio
 use crate::spelling::stmt_spelling::Keeps;
 use cobol_grammar::stmt_forms::Made;
 
-/// What is asked of each token of a source.
+/// What is required of each token of a source.
 pub trait Asks {
     ghost kind: { tokens.TokenKind → Type 0 };
 }
 
 /// Where the parts by which a division is read fit those by which what is printed of it is read
-/// again, and no fault is noted, its sentences and paragraphs have what they are to, but for their
+/// again, and no fault is noted, its sentences and paragraphs have what they need, except for their
 /// headers.
 pub fn readable_divisions_spell<
     Side,
@@ -39,7 +38,8 @@ pub fn readable_divisions_spell<
         Gives A.kind (division R.parts) (λ found. SpellsBodies P.parts K.kept program found) }
 {}
 
-/// With their headers at the places where they are printed, they spell the division.
+/// Bodies of paragraphs, with their headers at the places where they are printed, spell the
+/// division.
 pub fn bodies_with_headers_spell<Side, Known, P: Made<Side, Known>, K: Keeps<Side>>()
     ensures { (program : tree.Program) (taken : ℕ) (paragraphs : List tree_paragraph.Paragraph) →
         SpellsBodies P.parts K.kept program paragraphs →

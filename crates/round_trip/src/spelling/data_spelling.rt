@@ -14,13 +14,14 @@ ghost use Rattle.round_trip.specs.spelled_forms.Spelling.{Spelled};
 
 use cobol_grammar::data_forms::Refers;
 
-/// The tokens that a program is printed with are those of its divisions up to the PROCEDURE
+/// The tokens with which a program is printed are those of its divisions up to the PROCEDURE
 /// DIVISION, and then those of that division.
 pub fn divisions_have_tokens()
     ensures { DivisionsHaveTokens }
 {}
 
-/// They spell drafts that say of its files and entries what these are.
+/// The tokens of the divisions before the PROCEDURE DIVISION spell drafts that say of the program's
+/// files and entries what these are.
 pub fn printed_divisions_are_spelled<R: Refers>()
     ensures { (taken : ℕ) (program : Program) (fds : List Fd) (storage : List Entry) →
         IsPrintable R.status program fds storage →

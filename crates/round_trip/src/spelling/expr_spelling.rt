@@ -1,10 +1,10 @@
-//! The tokens that places, operands and expressions are printed with spell them by the grammar,
+//! The tokens with which places, operands and expressions are printed spell them by the grammar,
 //! where they can be printed. Nothing here runs.
 
 ghost use Rattle.round_trip.specs.spelling.expr_spelling.Laws.{ExpressionsAreSpelled, ReferencesAreFound};
 
-/// Places, operands and expressions that can be printed are spelled by the tokens that they are
-/// printed with.
+/// Places, operands and expressions that can be printed are spelled by the tokens with which they
+/// are printed.
 pub fn expressions_are_spelled()
     ensures { ExpressionsAreSpelled }
 {}

@@ -1,4 +1,5 @@
-//! What spells the parts of statements. These functions do nothing; their contracts are laws.
+//! The tokens that spell the parts of statements. These functions do nothing; their contracts are
+//! laws.
 
 ghost use Rattle.round_trip.specs.spelling.Laws.{
   PartsOfAreTold,
@@ -8,13 +9,13 @@ ghost use Rattle.round_trip.specs.spelling.Laws.{
   UsesAreFree,
 };
 
-/// What stands behind the parts is none of them, and what is kept of them tells what stands in the
-/// tree.
+/// What comes after a part doesn't belong to it, and what is kept of a part determines what the
+/// tree has.
 pub fn parts_are_told()
     ensures { PartsOfAreTold }
 {}
 
-/// Parts that can be printed are spelled by the tokens that they are printed with.
+/// Parts that can be printed are spelled by the tokens with which they are printed.
 pub fn parts_are_spelled()
     ensures { PartsAreSpelled }
 {}
@@ -29,8 +30,8 @@ pub fn terms_have_room()
     ensures { TermsHaveRoom }
 {}
 
-/// The tokens that the paragraphs of a program are printed with spell them, where their parts spell
-/// what they are to.
+/// The tokens with which the paragraphs of a program are printed spell them, where their parts
+/// spell what they have to.
 pub fn printed_procedures_are_spelled()
     ensures { ProceduresAreSpelled }
 {}

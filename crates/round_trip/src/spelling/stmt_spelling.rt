@@ -1,5 +1,5 @@
-//! Statements, sentences, paragraphs and sections are spelled by the tokens that they are printed
-//! with, where the operands, places, expressions, conditions and names in them are. Nothing here
+//! Statements, sentences, paragraphs and sections are spelled by the tokens with which they are
+//! printed, where the operands, places, expressions, conditions and names in them are. Nothing here
 //! runs.
 
 ghost use Rattle.std.specs.Prelude.{◌≡◌, ℕ};
@@ -18,8 +18,8 @@ pub trait Keeps<Side> {
     ghost kept: { Kept Side };
 }
 
-/// The tokens that the paragraphs of a program are printed with spell them, where their parts spell
-/// what they are to.
+/// The tokens with which the paragraphs of a program are printed spell them, where their parts
+/// spell what they have to.
 pub fn procedures_are_spelled<Side, Known, M: Made<Side, Known>, K: Keeps<Side>>()
     ensures { (program : tree.Program) (taken : ℕ) → PartsAreTold M.parts K.kept →
         SpellsDivision M.parts K.kept program taken program.paragraphs →

@@ -11,13 +11,13 @@ use cobol_grammar::part_readers::{Parts, number_operand, pushed};
 use parser_combinators::{Cursor, Unread};
 use std::alloc::Global;
 
-/// The operand before GIVING, if there is one, and where the results go.
+/// The operand before GIVING, where there is one, and where the results go.
 type Goal = (Option<Operand>, Items<Target>);
 
-/// What is worked out, and where it goes.
+/// What is computed, and where the result goes.
 pub type ArithmeticWork = (Calc, Items<Target>);
 
-/// One more operand.
+/// Reads one more operand.
 fn operand_behind<P: Parts>(
     parts: &P,
     alloc: Global,
@@ -99,7 +99,7 @@ fn result<P: Parts>(parts: &P, alloc: Global, cursor: &mut Cursor<'_>) -> Result
     Ok(Target { place, rounded })
 }
 
-/// One more result.
+/// Reads one more item that takes the result.
 fn result_behind<P: Parts>(
     parts: &P,
     alloc: Global,
@@ -186,7 +186,7 @@ fn literal_goal<P: Parts>(parts: &P, alloc: Global, cursor: &mut Cursor<'_>) -> 
     giving_goal(parts, alloc, cursor, operand)
 }
 
-/// One more item that is an operand too.
+/// Reads one more item that is an operand and takes the result.
 fn target_behind<P: Parts>(
     parts: &P,
     alloc: Global,
@@ -276,7 +276,7 @@ fn goal<P: Parts>(parts: &P, alloc: Global, cursor: &mut Cursor<'_>) -> Result<G
     }
 }
 
-/// What ADD works out, by whether an operand stands before GIVING.
+/// What ADD computes, by whether there is an operand before GIVING.
 fn added_to(operands: Items<Operand>, found: Goal) -> Result<ArithmeticWork, NoMemory>
     ensures { Makes (forms.added_to operands found) result }
 {
@@ -335,7 +335,7 @@ fn add_giving<P: Parts>(
     }
 }
 
-/// ADD up to its arms.
+/// Reads ADD up to its arms.
 #[tactic(auto, unfolding(cobol_grammar::specs::stmt_forms::Arithmetic::add))]
 pub fn add<P: Parts>(
     parts: &P,
@@ -353,7 +353,7 @@ pub fn add<P: Parts>(
     }
 }
 
-/// SUBTRACT up to its arms.
+/// Reads SUBTRACT up to its arms.
 #[tactic(auto, unfolding(cobol_grammar::specs::stmt_forms::Arithmetic::subtract))]
 pub fn subtract<P: Parts>(
     parts: &P,
@@ -381,7 +381,7 @@ pub fn subtract<P: Parts>(
     }
 }
 
-/// MULTIPLY up to its arms.
+/// Reads MULTIPLY up to its arms.
 #[tactic(auto, unfolding(cobol_grammar::specs::stmt_forms::Arithmetic::multiply))]
 pub fn multiply<P: Parts>(
     parts: &P,
@@ -467,7 +467,7 @@ fn divide_by<P: Parts>(
     }
 }
 
-/// DIVIDE up to its arms.
+/// Reads DIVIDE up to its arms.
 #[tactic(auto, unfolding(cobol_grammar::specs::stmt_forms::Arithmetic::divide))]
 pub fn divide<P: Parts>(
     parts: &P,
@@ -497,7 +497,7 @@ fn equals(cursor: &mut Cursor<'_>) -> Result<(), Unread>
     Ok(())
 }
 
-/// COMPUTE up to its arms.
+/// Reads COMPUTE up to its arms.
 #[tactic(auto, unfolding(cobol_grammar::specs::stmt_forms::Arithmetic::compute))]
 pub fn compute<P: Parts>(
     parts: &P,

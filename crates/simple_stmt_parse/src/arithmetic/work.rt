@@ -9,7 +9,7 @@ use cobol_grammar::stmt_forms::ArithmeticVerb;
 use parser_combinators::{Cursor, Unread};
 use std::alloc::Global;
 
-/// What is worked out, and by which statement.
+/// What is computed, and by which statement.
 pub type Worked = (ArithmeticVerb, ArithmeticWork);
 
 #[tactic(auto, unfolding(cobol_grammar::specs::stmt_forms::Arms::adding_work))]
@@ -60,7 +60,7 @@ fn computing_work<P: Parts>(
     Ok((ArithmeticVerb::Compute, work))
 }
 
-/// Arithmetic up to its arms.
+/// Reads arithmetic up to its arms.
 #[tactic(auto, unfolding(cobol_grammar::specs::stmt_forms::Arms::arithmetic_work))]
 pub fn arithmetic_work<P: Parts>(
     parts: &P,

@@ -120,6 +120,7 @@ fn open_groups<P: Parts>(
     Ok(found)
 }
 
+/// Reads OPEN.
 #[tactic(auto, unfolding(cobol_grammar::specs::stmt_forms::File::open_stmt))]
 pub fn open_stmt<P: Parts>(
     parts: &P,
@@ -149,6 +150,7 @@ fn file_names<P: Parts>(
     Ok(found)
 }
 
+/// Reads CLOSE.
 #[tactic(auto, unfolding(cobol_grammar::specs::stmt_forms::File::close_stmt))]
 pub fn close_stmt<P: Parts>(
     parts: &P,
@@ -195,6 +197,7 @@ fn from_part<P: Parts>(
     }
 }
 
+/// Reads WRITE.
 #[tactic(auto, unfolding(cobol_grammar::specs::stmt_forms::File::write_stmt))]
 pub fn write_stmt<P: Parts>(
     parts: &P,
@@ -211,6 +214,7 @@ pub fn write_stmt<P: Parts>(
     Ok(Stmt::Write { entry, from })
 }
 
+/// Reads REWRITE.
 #[tactic(auto, unfolding(cobol_grammar::specs::stmt_forms::File::rewrite_stmt))]
 pub fn rewrite_stmt<P: Parts>(
     parts: &P,

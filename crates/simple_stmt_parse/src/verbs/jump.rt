@@ -1,4 +1,4 @@
-//! Jumps, and what does nothing.
+//! Jumps, and statements that do nothing.
 
 ghost use Rattle.std.specs.Prelude.{◌≡◌};
 ghost use Rattle.parser_combinators.specs.Reading.{Reads};
@@ -136,7 +136,7 @@ fn exit_perform(cursor: &mut Cursor<'_>, scope: Scope, position: Position) -> Re
     Ok(Stmt::ExitPerform { cycle })
 }
 
-/// What stands behind EXIT, at which it has its position.
+/// Reads what comes after EXIT; `position` is that of EXIT.
 #[tactic(auto, unfolding(cobol_grammar::specs::stmt_forms::Jump::exit_behind))]
 pub fn exit_behind(
     cursor: &mut Cursor<'_>,
@@ -201,6 +201,7 @@ fn still_stmt(cursor: &mut Cursor<'_>) -> Result<Stmt, Unread>
     }
 }
 
+/// Reads GO TO, NEXT SENTENCE, STOP RUN, EXIT or CONTINUE.
 #[tactic(auto, unfolding(cobol_grammar::specs::stmt_forms::Jump::jump_stmt))]
 pub fn jump_stmt<P: Parts>(
     parts: &P,

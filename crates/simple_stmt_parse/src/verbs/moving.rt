@@ -13,6 +13,7 @@ use cobol_grammar::part_readers::{
 use parser_combinators::{Cursor, Unread};
 use std::alloc::Global;
 
+/// Reads an operand that is a value.
 #[tactic(auto, unfolding(cobol_grammar::specs::stmt_forms::Move::value))]
 pub fn value<P: Parts>(parts: &P, alloc: Global, cursor: &mut Cursor<'_>) -> Result<P::Side, Unread>
     ensures { Reads ((forms.value (P.parts parts.now)).reads cursor.old) result cursor.new }
@@ -34,7 +35,7 @@ fn value_operand<P: Parts>(
     Ok(parts.operand_of(side))
 }
 
-/// One more operand.
+/// Reads one more operand.
 fn operand_behind<P: Parts>(
     parts: &P,
     alloc: Global,
@@ -109,6 +110,7 @@ fn advancing(cursor: &mut Cursor<'_>) -> Result<bool, Unread>
     }
 }
 
+/// Reads DISPLAY.
 #[tactic(auto, unfolding(cobol_grammar::specs::stmt_forms::Move::display_stmt))]
 pub fn display_stmt<P: Parts>(
     parts: &P,
@@ -144,7 +146,7 @@ fn receiver<P: Parts>(
     Ok(parts.place_of(side))
 }
 
-/// One more item that takes what is moved.
+/// Reads one more item that takes what is moved.
 fn receiver_behind<P: Parts>(
     parts: &P,
     alloc: Global,
@@ -195,6 +197,7 @@ fn receivers<P: Parts>(
     receivers_from(parts, alloc, cursor, from, found)
 }
 
+/// Reads MOVE.
 #[tactic(auto, unfolding(cobol_grammar::specs::stmt_forms::Move::move_stmt))]
 pub fn move_stmt<P: Parts>(
     parts: &P,
@@ -220,7 +223,7 @@ fn set_one<P: Parts>(parts: &P, alloc: Global, cursor: &mut Cursor<'_>) -> Resul
     Ok(Stmt::SetTrue(parts.place_of(side)))
 }
 
-/// One more name of a level 88.
+/// Reads one more name of a level 88.
 fn set_behind<P: Parts>(
     parts: &P,
     alloc: Global,
@@ -255,6 +258,7 @@ fn set_more<P: Parts>(
     Ok(found)
 }
 
+/// Reads SET, which is a statement for each of its names, and adds these to those that were found.
 #[tactic(auto, unfolding(cobol_grammar::specs::stmt_forms::Move::set_stmts))]
 pub fn set_stmts<P: Parts>(
     parts: &P,

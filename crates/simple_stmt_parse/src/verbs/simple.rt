@@ -88,7 +88,7 @@ fn filing_or_jump<P: Parts>(
     }
 }
 
-/// A statement that holds no other, behind those that were found.
+/// Reads a statement that holds no other, and adds it to those that were found.
 #[tactic(auto, unfolding(cobol_grammar::specs::stmt_forms::Stmt::simple_stmts))]
 pub fn simple_stmts<P: Parts>(
     parts: &P,

@@ -1,9 +1,9 @@
--- Where the procedures of ranges stand.
+-- Where the procedures of ranges are.
 use Rattle.std.specs.Prelude.{ℕ, ◌≡◌, ◌<◌, ◌⊎◌, List, Some, slice_get}
 use Rattle.control_flow_theory.specs.language.Language.{Range, Part}
 use Rattle.statement_builders.specs.declared.arms.placing.ProcedurePlace.{ProcedurePlace}
 
--- each range in the list has the place that is said there
+-- each range in the list has the place that is given there
 abbrev pub ArePlaced : (Range → ℕ) → List ProcedurePlace → Type 0
 ArePlaced place places = (at : ℕ) (placed : ProcedurePlace) → slice_get places at ≡ Some placed →
     place (Part placed.entry placed.exit) ≡ placed.place

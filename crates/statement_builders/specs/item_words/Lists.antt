@@ -29,6 +29,7 @@ put_arms empty first [] = done
 put_arms empty first (stmts ∷ others) =
     put_arm (empty first) stmts (put_arms empty (suc first) others)
 
+-- which of these arms are written, the first of which has this number
 abbrev pub stand_so : (ℕ → Empty) → ℕ → List Stmts → List Bool
 stand_so empty first [] = []
 stand_so empty first (stmts ∷ others) =
@@ -42,6 +43,7 @@ chosen way picker lists =
     (whole_arms (picker_lacks (naming_in way) way.place way.range picker)
     (put_arms empty 0 lists))
 
+-- the statement is the choice among these arms, by such items
 abbrev pub IsChosen : List CellItem → code.Picker → List (List Stmt) → Stmt → Type 0
 IsChosen cells by lists made =
     EachWay cells (λ way. seen 0 made ≡ chosen way (seen_picker by) (map (seen_stmts 0) lists))
@@ -51,7 +53,7 @@ abbrev pub IsOwnChoice : Chooser → List (List Stmt) → Stmt → Type 0
 IsOwnChoice chooser lists made = (way : Way) →
     seen 0 made ≡ chosen way (By (seen_chooser chooser)) (map (seen_stmts 0) lists)
 
--- by such an item
+-- what is written of a choice by such an item
 abbrev pub item_chosen : (item : ℕ) → (ends_in_other : Bool) → (most : ℕ) → List Stmts →
     language.Stmt
 item_chosen item ends_in_other most lists =
@@ -61,12 +63,14 @@ item_chosen item ends_in_other most lists =
     (other_stands ends_in_other stands)))
     (whole_arms (not ends_in_other) (put_arms (of_cell ends_in_other most) 0 lists))
 
+-- the statement is the choice among these arms by the cell's item
 abbrev pub IsItemChoice : CellItem → List (List Stmt) → Stmt → Type 0
 IsItemChoice cell lists made =
     seen 0 made ≡ item_chosen cell.item cell.ends_in_other cell.most (map (seen_stmts 0) lists)
 
 -- EVALUATE of WHENs.
 
+-- a WHEN with these tests and statements
 abbrev pub branch : List Test → Stmts → Branch
 branch tests stmts = record { tests = tests; arm = required Continue stmts }
 
@@ -76,6 +80,7 @@ branches_of [] lists = []
 branches_of (tests ∷ others) [] = []
 branches_of (tests ∷ others) (stmts ∷ lists) = branch tests stmts ∷ branches_of others lists
 
+-- the WHENs have these tests and statements
 abbrev pub AreWhens : List (List Test) → List Stmts → List When → Type 0
 AreWhens tests lists made =
     (length tests ≡ length lists) × (map (seen_when 0) made ≡ branches_of tests lists)
@@ -98,9 +103,12 @@ abbrev pub IsAmongAll : Subject → List (List Test) → List Stmts → (has_oth
 IsAmongAll subject tests lists has_other made = (before : List Stmts) × (other : Stmts)
     × (lists ≡ before ++ other ∷ []) × IsAmong subject tests before other has_other made
 
+-- the tests of WHENs for 1, 2 and so on
 abbrev pub numbered : ℕ → List (List Test)
 numbered whens = map number_tests (numbers_from whole_literal 1 whens)
 
+-- the statement is EVALUATE of an expression by such WHENs, with the last of the lists as WHEN
+-- OTHER, which goes where it is empty
 abbrev pub IsNumberedAll : Expr → (whens : ℕ) → List Stmts → Stmt → Type 0
 IsNumberedAll side whens lists made =
     IsAmongAll (subjects.Value side) (numbered whens) lists false made

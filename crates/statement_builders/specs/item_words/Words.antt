@@ -20,10 +20,13 @@ use Rattle.statement_builders.specs.declared.item_words.cells.CellItem.{CellItem
 
 -- each cell of the range in the list has this item, and the choice by it so many arms
 pub record AreItems (way : Way) (cells : List CellItem) : Type 0 where
+  -- the cell has this item
   pub item : (cell : ℕ) (found : CellItem) → slice_get cells cell ≡ Some found →
       way.first + way.table.item way.range cell ≡ found.item
+  -- whether the last arm of a choice by it is WHEN OTHER
   pub ends : (cell : ℕ) (found : CellItem) → slice_get cells cell ≡ Some found →
       way.table.ends_in_other way.range cell ≡ found.ends_in_other
+  -- the largest number that is put into it
   pub most : (cell : ℕ) (found : CellItem) → slice_get cells cell ≡ Some found →
       way.table.most way.range cell ≡ found.most
 
@@ -43,11 +46,12 @@ IsAct cells act made = EachWay cells (λ way. seen 0 made ≡ written way (langu
 abbrev pub subtract : ℕ → List Operand → Stmt
 subtract item parts = stmts.Arith (calcs.Subtract parts) (target_of item ∷ []) bare
 
--- the item of the cell beside a number
+-- the condition compares the item of the cell with a number
 abbrev pub IsCellTest : List CellItem → (cell : ℕ) → Rel → (value : ℕ) → Cond → Type 0
 IsCellTest cells cell rel value made = (found : CellItem) × IsItemOf cells cell found
     × (made ≡ cell_relation found.item rel (whole_literal value))
 
+-- the condition is this test, or its negation, by such items
 abbrev pub IsTest : List CellItem → Bool → Test → Cond → Type 0
 IsTest cells turned test made = EachWay cells (λ way. test_of made
     ≡ written_test (naming_in way) way.place way.range (turned_test turned (seen_test test)))

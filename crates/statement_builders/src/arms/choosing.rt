@@ -1,4 +1,4 @@
-//! Statements with arms, by the lists that their arms hold.
+//! Statements with arms, from the lists that their arms hold.
 
 ghost use Rattle.std.specs.Prelude.{◌≡◌, ◌||◌, is_some, IfOk, IsOk, IsTrue};
 ghost use Rattle.control_flow_theory.specs.language.Control.{seen_stmts};
@@ -60,8 +60,9 @@ fn has_arm(first: &Option<Items<Stmt>>, second: &Option<Items<Stmt>>) -> bool
     first.is_some() || second.is_some()
 }
 
-/// Arithmetic: an empty ON SIZE ERROR holds CONTINUE, or is left out, and an empty NOT ON SIZE ERROR
-/// is left out. Err also where both are, as in no program that is read: it would choose nothing.
+/// Arithmetic: an empty ON SIZE ERROR holds CONTINUE, or is left out, and an empty NOT ON SIZE
+/// ERROR is left out. Err also where both are left out, which no program that is read has: it would
+/// choose nothing.
 pub fn arith_stmt(
     calc: Calc,
     into: Items<Target>,
@@ -82,8 +83,8 @@ pub fn arith_stmt(
     }
 }
 
-/// PERFORM of the procedure at the place. Err where it is tested by an added item, as in no program
-/// that is read, so that has no error of its own.
+/// PERFORM of the procedure at the place. Err also where it is tested by an added item, which no
+/// program that is read has, so it has no error of its own.
 pub fn perform_stmt(place: u32, control: Control) -> Result<Stmt, NoMemory>
     ensures own { IfOk result (λ made. IsOwnPerform place control made) }
     ensures every { IsTrue (control_own control) → IsOk result }
@@ -99,7 +100,7 @@ pub fn perform_stmt(place: u32, control: Control) -> Result<Stmt, NoMemory>
     }
 }
 
-/// PERFORM of statements. Err where it is tested by an added item, as above.
+/// PERFORM of statements. Err also where it is tested by an added item, as above.
 pub fn loop_stmt(control: Control, body: Items<Stmt>) -> Result<Stmt, NoMemory>
     ensures own { IfOk result (λ made. IsOwnLoop control body made) }
     ensures every { IsTrue (control_own control) → IsOk result }

@@ -1,4 +1,4 @@
-//! Empty lists: a required one holds CONTINUE, another is left out.
+//! Empty lists: a required one holds CONTINUE, any other is left out.
 
 ghost use Rattle.std.specs.Prelude.{◌≡◌, IfOk};
 ghost use Rattle.control_flow_theory.specs.language.Control.{seen_stmts};
@@ -22,7 +22,8 @@ pub fn or_continue(stmts: Items<Stmt>) -> Result<Items<Stmt>, NoMemory>
     }
 }
 
-/// The statements of an arm that stands or continues where it is empty, or else is left out.
+/// The statements of an arm; where it is empty it holds CONTINUE, if `continues` says so, or is
+/// left out.
 pub fn arm_unless_empty(
     stmts: Items<Stmt>,
     continues: bool,

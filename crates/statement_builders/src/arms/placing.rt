@@ -1,4 +1,4 @@
-//! Where the procedures of ranges stand.
+//! The places of the procedures of ranges.
 
 ghost use Rattle.std.specs.Prelude.{Decides, MatchOption};
 ghost use Rattle.statement_builders.specs.arms.Placing.{HasNone, HasPlace, IsBefore};
@@ -17,8 +17,8 @@ fn is_before(placed: ProcedurePlace, entry: u32, exit: u32) -> bool
     placed.entry < entry || placed.entry == entry && placed.exit < exit
 }
 
-/// The place of the range's procedure. Where the ranges stand by entry and then by exit, it is
-/// found if it is there.
+/// The place of the range's procedure. Where the ranges are in order, by entry and then by exit, it
+/// is found if it is there.
 pub fn place_of(places: &[ProcedurePlace], entry: u32, exit: u32) -> Option<u32>
     ensures { MatchOption result (HasNone places.now entry exit)
         (λ place. HasPlace places.now entry exit place) }

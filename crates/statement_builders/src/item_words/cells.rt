@@ -1,4 +1,4 @@
-//! Statements on the items that stand for cells.
+//! Statements on the items of cells.
 
 ghost use Rattle.std.specs.Prelude.{IfOk};
 ghost use Rattle.cob_base.specs.Answers.{Makes};
@@ -12,8 +12,8 @@ use cob_base::{Items, NoMemory};
 use cob_tree::{Arms, Calc, Operand, Stmt, Target};
 use std::alloc::Global;
 
-/// The item that stands for a cell, by its place among the entries. Where the last arm of a choice
-/// by it is WHEN OTHER, the choice has `most` arms.
+/// The item of a cell, by its place among the entries. Where the last arm of a choice by it is WHEN
+/// OTHER, the choice has `most` arms.
 #[derive(Clone, Copy)]
 pub struct CellItem {
     pub item: u32,

@@ -1,4 +1,4 @@
-//! Choices of a tree as statements, over the lists that their arms hold.
+//! Choices of a tree as statements, from the lists that their arms hold.
 
 ghost use Rattle.std.specs.Prelude.{◌≡◌, [], ◌∷◌, Some, map, IfOk};
 ghost use Rattle.branch_tree.specs.declared.chooser.Picker.TheVariants as pickers;
@@ -147,7 +147,7 @@ fn choose_evaluate(
     made
 }
 
-/// EVALUATE beside the numbers from 1, with a WHEN OTHER that no source has.
+/// EVALUATE with a WHEN for each number from 1, and with a WHEN OTHER that no source has.
 fn choose_numbered(
     alloc: Global,
     side: Expr,
@@ -200,7 +200,7 @@ fn choose_by(alloc: Global, chooser: Chooser, arms: Vec<Items<Stmt>>) -> Result<
     }
 }
 
-/// EVALUATE beside the numbers from 1, one for each arm.
+/// EVALUATE with a WHEN for each number from 1, one for each arm.
 fn choose_tested(alloc: Global, side: Expr, arms: Vec<Items<Stmt>>) -> Result<Stmt, NoMemory>
     ensures { IfOk result (λ made. IsNumbered side (map (seen_stmts 0) arms.items) made) }
 {
@@ -259,7 +259,7 @@ fn choose_cell(
     }
 }
 
-/// The choice over the lists of its arms. Err where memory is wanted, where it has other arms than
+/// The choice over the lists of its arms. Err where memory runs out, where it has other arms than
 /// such a choice, and where a word of the program's own is on an added item.
 pub fn choose(
     alloc: Global,
@@ -277,8 +277,8 @@ pub fn choose(
     }
 }
 
-/// Lets statements go.
+/// Drops statements.
 pub fn drop_stmts(_stmts: Items<Stmt>) {}
 
-/// Lets lists of statements go.
+/// Drops lists of statements.
 pub fn drop_lists(_lists: Items<Items<Stmt>>) {}

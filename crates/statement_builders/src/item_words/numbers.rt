@@ -1,4 +1,4 @@
-//! Numbers as they are written, and the item that stands for a cell beside them.
+//! Numbers as they are written, and tests of a cell's item with them.
 
 ghost use Rattle.std.specs.Prelude.{◌≡◌, [], ◌∷◌, ◌++◌, map, OnOk};
 ghost use Rattle.cob_base.specs.Answers.{Makes};
@@ -25,6 +25,7 @@ pub fn whole_literal(alloc: Global, value: u32) -> Result<Number, NoMemory>
     })
 }
 
+/// A number as an operand.
 pub fn number_operand(alloc: Global, value: u32) -> Result<Operand, NoMemory>
     ensures { Makes (number_operand (whole_literal value)) result }
 {
@@ -39,6 +40,7 @@ fn number_side(alloc: Global, value: u32) -> Result<Expr, NoMemory>
     Ok(Expr::Leaf(number))
 }
 
+/// An item as a place.
 pub fn item_place(alloc: Global, item: u32) -> Place
     ensures { result ≡ cell_place item }
 {
@@ -50,12 +52,14 @@ pub fn item_place(alloc: Global, item: u32) -> Place
     }
 }
 
+/// An item as an expression.
 pub fn item_side(alloc: Global, item: u32) -> Expr
     ensures { result ≡ operand_expr (cell_operand item) }
 {
     Expr::Leaf(Operand::Place(item_place(alloc, item)))
 }
 
+/// A place as an expression.
 pub fn place_side(place: Place) -> Expr
     ensures { result ≡ place_expr place }
 {
@@ -70,7 +74,7 @@ pub fn relation(alloc: Global, item: u32, rel: Rel, value: u32) -> Result<Cond, 
     Ok(Cond::Relation(item_side(alloc, item), rel, number))
 }
 
-/// One alone.
+/// A list of one element.
 pub fn single<T: Drop>(alloc: Global, one: T) -> Result<Items<T>, NoMemory>
     ensures { Makes (one ∷ []) result }
 {

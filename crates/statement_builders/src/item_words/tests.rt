@@ -48,7 +48,7 @@ fn bare_test(alloc: Global, test: Test, cells: &[CellItem]) -> Result<Cond, NoMe
     }
 }
 
-/// The test as a condition, or the negation of it where it is turned.
+/// The test as a condition, negated where it is turned.
 pub fn written_test(
     alloc: Global,
     test: Test,
@@ -66,7 +66,7 @@ pub fn written_test(
     }
 }
 
-/// PERFORM of the statements UNTIL the test, or UNTIL NOT it where it is turned.
+/// PERFORM of the statements UNTIL the test, or UNTIL NOT the test where it is turned.
 pub fn loop_until(
     alloc: Global,
     test: Test,

@@ -1,4 +1,4 @@
-//! EVALUATE of WHENs, by their tests and the lists of their arms.
+//! EVALUATE of WHENs, from their tests and the lists of their arms.
 
 ghost use Rattle.std.specs.Prelude.{◌≡◌, false, length, map, is_some, IfOk, OnOk, ◌++◌};
 ghost use Rattle.control_flow_theory.specs.language.Control.{cell_chosen, seen_stmts, seen_when};
@@ -44,7 +44,7 @@ fn add_whens(
     Ok(())
 }
 
-/// The WHENs with these tests and arms. Err too where there are more of one than of the other.
+/// The WHENs with these tests and arms. Err also where there are more of one than of the other.
 fn whens_of(
     alloc: Global,
     tests: &[Items<WhenTest>],
@@ -88,7 +88,7 @@ fn by_subject(
     }
 }
 
-/// EVALUATE of the arms with these tests, and of the other one.
+/// EVALUATE of the arms with these tests, and of the arm of WHEN OTHER.
 pub fn among(
     alloc: Global,
     subject: Subject,

@@ -25,7 +25,7 @@ use Rattle.statement_lowering.specs.declared.continuations.continuation.Continua
 use Rattle.statement_lowering.specs.continuations.Successors.{Lowering, begun}
 use Rattle.statement_lowering.specs.continuations.Statements.{Adds, Agrees, AllFit, AreRests, told}
 
--- behind the last sentence is the paragraph's end
+-- after the last sentence is the paragraph's end
 abbrev pub paragraph_end : Begin
 paragraph_end = record { after = leaf.Return; behind = None }
 
@@ -33,13 +33,16 @@ paragraph_end = record { after = leaf.Return; behind = None }
 pub record IsBegin (layout : PlaceTable) (stmts : List Stmt) (place : ℕ) (next found : Begin) : Type
     0
   where
+    -- where control goes on after the sentence before
     pub after : IsJumpTarget layout.places.items layout.end stmts place next.after found.after
+    -- the place at which its tree goes on
     pub behind : found.behind ≡ begun stmts place next.behind
 
+-- how many places a sentence takes
 abbrev pub sentence_size : Sentence → ℕ
 sentence_size sentence = sum_by stmt_places sentence.stmts
 
--- the begins of sentences from a place on, and of what stands behind them
+-- the begins of sentences from a place on, and of what follows them
 abbrev pub AreBegins : PlaceTable → ℕ → List Sentence → List Begin → Type 0
 AreBegins layout place [] found = found ≡ paragraph_end ∷ []
 AreBegins layout place (sentence ∷ others) [] = ⊥
@@ -56,7 +59,9 @@ sentence_sizes sentences = sum_by sentence_size sentences
 pub record AreStacked (layout : PlaceTable) (place : ℕ) (sentences : List Sentence)
     (found : List Begin) : Type 0 where
   pub firsts : List Begin
+  -- these are the begins of the sentences
   pub are : AreBegins layout place sentences firsts
+  -- they are on top of one another, the first on top
   pub is : found ≡ reverse firsts
 
 -- the first is on top
@@ -99,7 +104,7 @@ left_at ends number = record {
 }
 
 module _ (told : FlowFacts) (place_of : ℕ → ℕ) (leaving : lower.EscapeTargets) where
-  -- what stands behind the statements of a sentence
+  -- what follows the statements of a sentence
   abbrev pub rest_behind : language.Stmts → ℕ → language.Paragraph → Rest
   rest_behind sentence place others =
       Sent (leave_sentence (cuts told sentence))
@@ -115,17 +120,21 @@ module _ (told : FlowFacts) (place_of : ℕ → ℕ) (leaving : lower.EscapeTarg
       (tree_of told place_of leaving (rest_behind sentence place others))
       ++ nodes_of_sentences (place + sizes sentence) others
 
+  -- the nodes of a paragraph at this place: its begin, and those of its sentences
   abbrev pub nodes_of_paragraph : ℕ → language.Paragraph → List lower.Node
   nodes_of_paragraph place paragraph =
       lower.node (lower.point place)
       (tree_of told place_of leaving (rest_from told (place + 1) paragraph))
       ∷ nodes_of_sentences (place + 1) paragraph
 
--- the graph is one of what is told, and has the nodes of a paragraph
+-- the graph is one of what is known, and has the nodes of a paragraph
 pub record HasParagraph (telling : LoweringContext) (g : Lowering telling.layout.now)
     (paragraph : Paragraph) (place number last : ℕ) : Type 0 where
+  -- lowering knows the same files
   pub files : g.files ≡ telling.files.now
+  -- and the same ranges that return
   pub returning : g.returning ≡ telling.returning.now
+  -- the graph has the paragraph's nodes
   pub nodes : Agrees g.node (3 * place) (3 * (place + 1 + paragraph_size paragraph))
       (nodes_of_paragraph (told telling.layout.now g) g.place_of (left_at g.ends number) place
       (seen_paragraph last paragraph))
@@ -159,8 +168,11 @@ graph_of telling program range layout = record {
 -- at each place of a program its rest, in each range
 pub record AreRestsOf (telling : LoweringContext) (program : Program)
     (spots : List Continuation) : Type 0 where
+  -- there is a rest for each place
   pub count : length spots ≡ telling.layout.now.end
+  -- each rest goes on within the table
   pub fit : AllFit telling.layout.now.end 0 spots
+  -- in each range the trees are those of the rests
   pub rests : (range : language.Range)
       (layout : IsLayout program telling.layout.now.places.items telling.layout.now.end) →
       AreRests telling.layout.now (graph_of telling program range layout) 0 spots

@@ -37,6 +37,7 @@ turn_by told place_of is_head
 turn_by told place_of is_head stmts place leaving after = lower.end_alone graph.Dead
 
 module _ (layout : PlaceTable) (g : Lowering layout) where
+  -- what lowering of the graph knows
   abbrev pub told : FlowFacts
   told = flow_facts_of g.files g.returning
 
@@ -54,26 +55,32 @@ module _ (layout : PlaceTable) (g : Lowering layout) where
 
   -- the trees at a place are those of this rest
   pub record IsRest (place : ℕ) (spot : Continuation) : Type 0 where
+    -- the tree before the rest's first statement
     pub point : g.node (lower.point place)
         ≡ lower.build told g.place_of (seen_stmts spot.onward.last spot.stmts.now) place
         (leaving_by layout g spot.onward) (after_by layout g spot.onward)
         (behind_by layout g spot.onward)
+    -- the tree at the head of the loop with which it begins, or at its test or step
     pub turn : (is_head : Bool) →
         g.node (if is_head then lower.loop_head_label place else lower.loop_step_label place)
         ≡ turn_by told g.place_of is_head (seen_stmts spot.onward.last spot.stmts.now) place
         (leaving_by layout g spot.onward) (after_by layout g spot.onward)
 
--- what stands at a place names own items, and goes on within the table
+-- what is at a place names own items, and goes on within the table
 pub record Fits (end : ℕ) (place : ℕ) (spot : Continuation) : Type 0 where
+  -- its statements name own items
   pub own : stmts_own spot.stmts.now ≡ true
+  -- their places are within the table
   pub within : place + sum_by stmt_places spot.stmts.now ≤ end
+  -- the place at which it goes on comes later
   pub later : GoesLater (place + 1) end spot.onward.behind
 
--- the same of spots from a place on
+-- each of these spots, from a place on, fits
 abbrev pub AllFit : ℕ → ℕ → List Continuation → Type 0
 AllFit end place [] = Unit {0}
 AllFit end place (spot ∷ spots) = Fits end place spot × AllFit end (place + 1) spots
 
+-- the trees from a place on are those of these rests
 abbrev pub AreRests : (layout : PlaceTable) → Lowering layout → ℕ → List Continuation → Type 0
 AreRests layout g place [] = Unit {0}
 AreRests layout g place (spot ∷ spots) =
@@ -82,10 +89,15 @@ AreRests layout g place (spot ∷ spots) =
 -- So many rests are added, which are those of each graph that meets a premise.
 pub record Adds (layout : PlaceTable) (places : ℕ) (premise : Lowering layout → Type 0)
     (old new : List Continuation) : Type 0 where
+  -- the rests that are added
   pub made : List Continuation
+  -- they come after the old ones
   pub is : new ≡ old ++ made
+  -- there is one for each place
   pub count : length made ≡ places
+  -- each goes on within the table
   pub fits : AllFit layout.end (length old) made
+  -- they are those of each such graph
   pub rests : (g : Lowering layout) → premise g → AreRests layout g (length old) made
 
 -- those of statements
@@ -98,7 +110,7 @@ AddsRests layout stmts onward old new =
 abbrev pub inner_places : Stmt → ℕ
 inner_places stmt = stmt_places stmt - 1
 
--- behind this place the graph has the nodes of a statement there
+-- after this place the graph has the nodes of a statement there
 abbrev pub HasInner : (layout : PlaceTable) (g : Lowering layout) → language.Stmt → ℕ → ℕ →
     Successors →
     Type 0
@@ -134,6 +146,7 @@ AddsArms layout arms places onward old new =
 abbrev pub branch_arms : List When → ℕ → language.Arms
 branch_arms whens last = branches_before (map (seen_when last) whens) language.done
 
+-- an arm that may be missing, alone
 abbrev pub phrase_alone : Option (List Stmt) → ℕ → language.Arms
 phrase_alone phrase last = arm_before (seen_phrase last phrase) language.done
 
@@ -141,6 +154,9 @@ phrase_alone phrase last = arm_before (seen_phrase last phrase) language.done
 pub record AddsContinuation (stmts : List Stmt) (onward : Successors)
     (old new : List Continuation) : Type 0 where
   pub spot : Continuation
+  -- it comes after the old ones
   pub is : new ≡ old ++ spot ∷ []
+  -- it has these statements
   pub stands : spot.stmts.now ≡ stmts
+  -- and goes on so
   pub goes : spot.onward ≡ onward

@@ -13,12 +13,16 @@ use Rattle.lowering_labels.specs.declared.points.jump_target.JumpTarget.{JumpTar
 use Rattle.lowering_labels.specs.declared.points.jump_target.JumpTarget.TheVariants as leaf
 use Rattle.statement_lowering.specs.declared.continuations.continuation.Successors.{Successors}
 
--- a graph: its trees by their labels, where a range goes on behind each paragraph, the places of
--- paragraphs, and what lowering is told
+-- a graph: its trees by their labels, where a range goes on after each paragraph, the places of
+-- paragraphs, and what lowering knows
 pub record Lowering (layout : PlaceTable) : Type 0 where
+  -- the tree at a label
   pub node : graph.Label → graph.Tree
+  -- where a range goes on after a paragraph
   pub ends : ℕ → graph.End
+  -- the place of each paragraph
   pub place_of : ℕ → ℕ
+  -- the table has these places
   pub at : AreAt layout.places.items layout.end place_of
   pub files : List FileEntry
   pub returning : List (List ℕ)
@@ -30,10 +34,11 @@ ended end leaf.Return = end
 ended end leaf.Stop = graph.Stop
 
 module _ (layout : PlaceTable) (g : Lowering layout) where
-  -- the paragraph's end
+  -- the end of the paragraph, as a tree's
   abbrev pub end_by : Successors → graph.End
   end_by onward = g.ends onward.paragraph
 
+  -- where what leaves the rest goes on, in the graph
   abbrev pub leaving_by : Successors → lower.EscapeTargets
   leaving_by onward = record {
     sentence = ended (g.ends onward.paragraph) onward.sentence;
@@ -43,6 +48,7 @@ module _ (layout : PlaceTable) (g : Lowering layout) where
     cycle = ended (g.ends onward.paragraph) onward.cycle;
   }
 
+  -- where control goes on after the rest, in the graph
   abbrev pub after_by : Successors → graph.End
   after_by onward = ended (g.ends onward.paragraph) onward.after
 
@@ -51,6 +57,7 @@ module _ (layout : PlaceTable) (g : Lowering layout) where
   tree_behind None after = lower.end_alone after
   tree_behind (Some next) after = g.node (lower.point next)
 
+  -- the tree of what follows the rest
   abbrev pub behind_by : Successors → graph.Tree
   behind_by onward = tree_behind onward.behind (after_by onward)
 
@@ -59,22 +66,28 @@ abbrev pub GoesLater : ℕ → ℕ → Option ℕ → Type 0
 GoesLater place end None = Unit {0}
 GoesLater place end (Some next) = (place ≤ next) × (next < end)
 
--- where control goes on before these statements, and so behind what stands before them
+-- where control goes on before these statements, and so after what comes before them
 
+-- the place of the first of these statements, or that of what follows them where there are none
 abbrev pub begun : List Stmt → ℕ → Option ℕ → Option ℕ
 begun [] place next = next
 begun (stmt ∷ stmts) place next = Some place
 
+-- where control goes on before these statements, by where it goes on after them
 pub record IsBefore (layout : PlaceTable) (rest : List Stmt) (place : ℕ)
     (old new : Successors) : Type 0
   where
+    -- where control goes on after the statements before these
     pub after : IsJumpTarget layout.places.items layout.end rest place old.after new.after
+    -- all else is the same
     pub same : new ≡ record old { after = new.after; behind = begun rest place old.behind }
 
 -- and in the body of a loop at a place
 pub record IsInLoop (control : Option language.Control) (place : ℕ) (old new : Successors) : Type 0
   where
+    -- control goes on at the loop's next turn
     pub turn : seen_target new.after ≡ turn_end control place
+    -- the loop is left where control went on before
     pub same : new ≡ record old {
       after = new.after;
       behind = None;

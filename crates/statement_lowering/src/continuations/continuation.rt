@@ -10,13 +10,13 @@ use lowering_labels::points::JumpTarget;
 /// Where control goes on from a rest, in any range: a return stands for the paragraph's end.
 #[derive(Clone, Copy)]
 pub struct Successors {
-    /// Behind the rest's list.
+    /// After the rest's list.
     pub after: JumpTarget,
-    /// The place at which the tree goes on behind the list; none where it ends there.
+    /// The place at which the tree goes on after the list; none where it ends there.
     pub behind: Option<u32>,
-    /// Behind the sentence.
+    /// After the sentence.
     pub sentence: JumpTarget,
-    /// Behind the innermost loop, and at its next turn.
+    /// After the innermost loop, and at its next turn.
     pub behind_loop: JumpTarget,
     pub cycle: JumpTarget,
     /// The paragraph, and the last one of its section.
@@ -24,14 +24,14 @@ pub struct Successors {
     pub last: u32,
 }
 
-/// The statements at a place and behind it in their list. Nothing is copied.
+/// The statements at a place and after it in their list. Nothing is copied.
 #[derive(Clone, Copy)]
 pub struct Continuation<'a> {
     pub stmts: &'a [Stmt],
     pub onward: Successors,
 }
 
-/// The continuation where the paragraph's end is this one.
+/// The continuation, with this one for the paragraph's end.
 pub fn ended_by(leaf: &JumpTarget, end: &JumpTarget) -> JumpTarget
     ensures { seen_target result ≡ ended (seen_target end.now) leaf.now }
 {

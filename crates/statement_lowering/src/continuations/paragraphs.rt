@@ -16,14 +16,14 @@ use lowering_labels::points::{JumpTarget, jump_target_of, section_last, stmts_si
 use program_facts::completion::stmts_facts;
 use std::alloc::Global;
 
-/// The continuation at a sentence's begin, and the place at which the tree goes on there.
+/// The continuation at the beginning of a sentence, and the place at which the tree goes on there.
 #[derive(Clone, Copy)]
 struct Begin {
     after: JumpTarget,
     behind: Option<u32>,
 }
 
-/// Behind the last sentence is the paragraph's end.
+/// What comes after the last sentence: the paragraph's end.
 fn paragraph_end() -> Begin
     ensures { result ≡ paragraph_end }
 {
@@ -33,7 +33,7 @@ fn paragraph_end() -> Begin
     }
 }
 
-/// The begin of a sentence at a place, by that of the next one.
+/// The beginning of a sentence at a place, by that of the next one.
 fn begin_of(sentence: &Sentence, place: u32, next: &Begin, telling: &LoweringContext<'_>) -> Begin
     requires { place + sum_by stmt_places sentence.now.stmts < 2 ^ 32 }
     ensures { IsBegin telling.now.layout.now sentence.now.stmts place next.now result }
@@ -45,7 +45,7 @@ fn begin_of(sentence: &Sentence, place: u32, next: &Begin, telling: &LoweringCon
     }
 }
 
-/// Puts a begin on top.
+/// Puts a beginning on top.
 fn stack(begins: &mut Vec<Begin>, begin: &Begin) -> Result<(), NoMemory>
     ensures { OnOk result (begins.new.items ≡ begins.old.items ++ begin.now ∷ []) }
 {
@@ -59,7 +59,7 @@ fn stack(begins: &mut Vec<Begin>, begin: &Begin) -> Result<(), NoMemory>
     }
 }
 
-/// Adds the begin of a sentence at a place, behind which is the one on top.
+/// Adds the beginning of a sentence at a place; the one on top comes after it.
 fn push_begin(
     begins: &mut Vec<Begin>,
     sentence: &Sentence,
@@ -76,8 +76,8 @@ fn push_begin(
     Ok(())
 }
 
-/// The begins of sentences behind which is this place, from the last one back: first of all that
-/// of what stands behind them.
+/// The beginnings of sentences that end at this place, from the last to the first; before all of
+/// these that of what comes after them.
 fn begins_of(
     alloc: Global,
     sentences: &[Sentence],
@@ -100,7 +100,7 @@ fn begins_of(
     Ok(begins)
 }
 
-/// The begin on top.
+/// The beginning on top.
 fn top(begins: &Vec<Begin>) -> Begin
     ensures { IsTop begins.now.items result }
 {
@@ -110,7 +110,7 @@ fn top(begins: &Vec<Begin>) -> Begin
     }
 }
 
-/// The begin on top, which is taken.
+/// The beginning on top, which is taken off.
 fn taken(begins: &mut Vec<Begin>) -> Begin
     ensures { TakesTop begins.old.items begins.new.items result }
 {
@@ -120,8 +120,8 @@ fn taken(begins: &mut Vec<Begin>) -> Begin
     }
 }
 
-/// Where control goes on from the statements of a sentence, by the begin of the next one. Where a
-/// NEXT SENTENCE stands in it, its end ends the tree.
+/// Where control goes on from the statements of a sentence, by the beginning of the next one. Where
+/// the sentence holds a NEXT SENTENCE, its end ends the tree.
 fn in_sentence(next: &Begin, leaves: bool, paragraph: u32, last: u32) -> Successors
     ensures { result ≡ inside next.now leaves paragraph last }
 {

@@ -25,7 +25,7 @@ pub fn begun(rest: &[Stmt], place: u32, next: Option<u32>) -> Option<u32>
     }
 }
 
-/// Where control goes on behind the statement before these, whose first has this place.
+/// Where control goes on after the statement before these, whose first has this place.
 fn before_rest(onward: &Successors, rest: &[Stmt], place: u32, layout: &PlaceTable) -> Successors
     requires { place + sum_by stmt_places rest.now < 2 ^ 32 }
     ensures { IsBefore layout.now rest.now place onward.now result }
@@ -70,6 +70,7 @@ fn is_once(control: &Control) -> bool
     }
 }
 
+/// Adds the rest at a place.
 pub fn push_spot<'a>(
     spots: &mut Vec<Continuation<'a>>,
     stmts: &'a [Stmt],

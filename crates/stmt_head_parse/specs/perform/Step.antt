@@ -1,4 +1,4 @@
--- What is left of VARYING behind what was read of it: a step of the code each.
+-- What is left of VARYING after what was read of it: a step of the code each.
 use Rattle.std.specs.Prelude.{Bool, codes}
 use Rattle.cob_tree.specs.declared.control.Control.TheVariants as controls
 use Rattle.cob_tree.specs.declared.place.Operand.{Operand}
@@ -9,7 +9,7 @@ use Rattle.cobol_grammar.specs.stmt_forms.Arithmetic.{number_operand}
 use Rattle.cobol_grammar.specs.stmt_forms.Loop.{Controlled}
 use Rattle.cobol_grammar.specs.stmt_forms.Part.{Parts}
 
--- the condition behind UNTIL
+-- the condition after UNTIL
 abbrev pub varying_all : {Side Known : Type 0} → Parts Side Known → (after : Bool) →
     (item : Place) → (from by : Operand) → Form Controlled
 varying_all parts after item from by =

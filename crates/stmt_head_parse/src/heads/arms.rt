@@ -69,7 +69,7 @@ fn entering_words(cursor: &mut Cursor<'_>, phrase: Phrase, levels: u32) -> Resul
     phrase_words(cursor, phrase)
 }
 
-/// Takes the words of a first phrase, where they are next, and tells whether they were.
+/// Takes the words of a first phrase, where they are next, and answers whether they were.
 #[tactic(auto, unfolding(cobol_grammar::specs::stmt_forms::Arms::first_phrase))]
 pub fn first_phrase(cursor: &mut Cursor<'_>, phrase: Phrase, levels: u32) -> Result<bool, Unread>
     ensures { Reads ((forms.first_phrase phrase (all.enter_level levels)).reads cursor.old)

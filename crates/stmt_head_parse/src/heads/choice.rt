@@ -34,7 +34,7 @@ fn test_cond<P: Parts>(parts: &P, alloc: Global, cursor: &mut Cursor<'_>) -> Res
     settled(cursor, found)
 }
 
-/// IF up to its statements.
+/// Reads IF up to its statements.
 #[tactic(auto, unfolding(cobol_grammar::specs::stmt_forms::Choice::if_head))]
 pub fn if_head<P: Parts>(
     parts: &P,
@@ -154,7 +154,7 @@ pub fn at_thru(cursor: &Cursor<'_>) -> bool
     cursor.sees(b"THRU") || cursor.sees(b"THROUGH")
 }
 
-/// THRU or THROUGH.
+/// Reads THRU or THROUGH.
 #[tactic(auto, unfolding(cobol_grammar::specs::stmt_forms::Choice::thru))]
 pub fn thru(cursor: &mut Cursor<'_>) -> Result<(), Unread>
     ensures { Reads (forms.thru.reads cursor.old) result cursor.new }
@@ -267,7 +267,7 @@ fn next_test<P: Parts>(
     one_test(parts, alloc, cursor, known)
 }
 
-/// One more test.
+/// Reads one more test.
 fn test_behind<P: Parts>(
     parts: &P,
     alloc: Global,
@@ -318,7 +318,7 @@ fn all_tests<P: Parts>(
     more_tests(parts, alloc, cursor, known, found)
 }
 
-/// The first tests of EVALUATE.
+/// Reads the first tests of EVALUATE.
 #[tactic(auto, unfolding(cobol_grammar::specs::stmt_forms::Choice::first_tests))]
 pub fn first_tests<P: Parts>(
     parts: &P,
@@ -341,7 +341,7 @@ fn other_words(cursor: &mut Cursor<'_>) -> Result<Option<Items<Test>>, Unread>
     Ok(None)
 }
 
-/// The tests behind a further WHEN, or none where OTHER is.
+/// Reads the tests after a further WHEN, or OTHER, which gives none.
 #[tactic(auto, unfolding(cobol_grammar::specs::stmt_forms::Choice::when_head))]
 pub fn when_head<P: Parts>(
     parts: &P,
@@ -361,7 +361,7 @@ pub fn when_head<P: Parts>(
     }
 }
 
-/// EVALUATE and its subject.
+/// Reads EVALUATE and its subject.
 #[tactic(auto, unfolding(cobol_grammar::specs::stmt_forms::Choice::evaluate_head))]
 pub fn evaluate_head<P: Parts>(
     parts: &P,

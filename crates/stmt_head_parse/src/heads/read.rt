@@ -10,7 +10,7 @@ use cobol_grammar::stmt_forms::ReadHead;
 use parser_combinators::{Cursor, Unread};
 use std::alloc::Global;
 
-/// READ and the name of its file, by its place among the files.
+/// Reads READ and the name of its file, and gives the place among the files.
 #[tactic(auto, unfolding(cobol_grammar::specs::stmt_forms::File::read_file))]
 fn read_file<P: Parts>(parts: &P, cursor: &mut Cursor<'_>) -> Result<Option<u32>, Unread>
     ensures { Reads ((files.read_file (P.parts parts.now)).reads cursor.old) result cursor.new }
@@ -36,7 +36,7 @@ fn into_item<P: Parts>(
     Ok(Some(parts.place_of(side)))
 }
 
-/// `[RECORD] [INTO reference]`, of READ.
+/// Reads `[RECORD] [INTO reference]`, of READ.
 #[tactic(auto, unfolding(cobol_grammar::specs::stmt_forms::File::into_part))]
 fn into_part<P: Parts>(
     parts: &P,

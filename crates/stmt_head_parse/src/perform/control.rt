@@ -93,7 +93,7 @@ fn varied<P: Parts>(
     Ok(Boxed::new(alloc, parts.place_of(side))?)
 }
 
-/// An operand that is a number.
+/// Reads an operand of VARYING that is a number.
 fn varying_number<P: Parts>(
     parts: &P,
     alloc: Global,

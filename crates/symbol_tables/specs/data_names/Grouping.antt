@@ -1,23 +1,24 @@
--- The groups that an entry stands in, by level numbers. They are looked for within its FD, or
+-- The groups that an entry is in, by level numbers. They are looked for within its FD, or
 -- within working storage: an entry of another file, or of none, ends the search.
 use Rattle.std.specs.Prelude.{ℕ, Bool, true, false, ◌&&◌, ◌||◌, ◌==◌, nat_lt, List, [], ◌∷◌, Option, Some, None, if◌then◌else◌}
 use Rattle.std.specs.List.{count_by, filter_map}
 use Rattle.std.specs.Option.{is_some}
 use Rattle.cob_tree.specs.declared.entry.Entry.{Entry}
 
--- the levels of items in records, 01 to 49; 77 and 88 stand apart, and no other is a level
+-- the levels of items in records, 01 to 49; 77 and 88 are apart, and no other is a level
 abbrev pub is_numbered : ℕ → Bool
 is_numbered level = nat_lt 0 level && nat_lt level 50
 
--- An entry of this level stands in what has a lower level than this: a level 88 in any item, an
+-- An entry of this level is in what has a lower level than this: a level 88 in any item, an
 -- item of level 77 in none.
 abbrev pub bound_of : ℕ → ℕ
 bound_of level = if nat_lt level 50 || level == 88 then level else 0
 
--- an item that something stands in which is bounded so
+-- the entry is an item that holds what is bounded so
 abbrev pub holds : ℕ → Entry → Bool
 holds bound entry = (is_numbered entry.level || entry.level == 77) && nat_lt entry.level bound
 
+-- both entries are of one file, or of none
 abbrev pub same_file : Option ℕ → Option ℕ → Bool
 same_file None None = true
 same_file (Some file) (Some other) = file == other
@@ -43,14 +44,16 @@ has_items level file (entry ∷ behind) =
     then (if is_numbered entry.level then nat_lt level entry.level else has_items level file behind)
     else false
 
+-- the word, if there is one
 abbrev pub word_list : Option (List ℕ) → List (List ℕ)
 word_list None = []
 word_list (Some word) = word ∷ []
 
--- their names, without FILLER
+-- the names of these groups, without FILLER
 abbrev pub group_words : List Entry → List (List ℕ)
 group_words groups = filter_map (λ entry. entry.name) groups
 
+-- the entry has an OCCURS clause
 abbrev pub repeats : Entry → Bool
 repeats entry = is_some entry.occurs
 

@@ -1,5 +1,5 @@
--- Looking up by one word of a reference: the numbers of the entries that it names or may qualify, in
--- their order.
+-- Looking up by one word of a reference: the numbers of the entries that it names or may qualify,
+-- in their order.
 use Rattle.std.specs.Prelude.{ℕ, Bool, ◌+◌, List, [], ◌∷◌, Option, Some, None, slice_get, if◌then◌else◌}
 use Rattle.std.specs.List.{fold, list_any}
 use Rattle.std.specs.Option.{unwrap_or}
@@ -29,15 +29,17 @@ abbrev pub and_item : Referent → ℕ → Name → Referent
 and_item found.Unknown item name = found.Item item name.kind name.dims
 and_item _ item name = found.Ambiguous
 
--- the item of this number too, where it fits
+-- what was found with the item of this number too, where it fits
 abbrev pub tally_by : List ℕ → (of : List (List ℕ)) → Referent → ℕ → Option Name → Referent
 tally_by word of result item None = result
 tally_by word of result item (Some name) =
     if fits word of name then and_item result item name else result
 
+-- the item of this number too, where it fits the reference
 abbrev pub tally : List Name → List ℕ → (of : List (List ℕ)) → Referent → ℕ → Referent
 tally names word of result item = tally_by word of result item (slice_get names item)
 
+-- what a reference stands for, among the items with these numbers
 abbrev pub find_among : List Name → List ℕ → (of : List (List ℕ)) → (places : List ℕ) → Referent
 find_among names word of places = fold (tally names word of) found.Unknown places
 

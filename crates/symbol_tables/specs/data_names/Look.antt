@@ -14,6 +14,7 @@ are_within (first ∷ others) [] = false
 are_within (first ∷ others) (name ∷ outer) =
     if bytes_eq first name then are_within others outer else are_within (first ∷ others) outer
 
+-- the name is there, and is this word
 abbrev pub is_called : List ℕ → Option (List ℕ) → Bool
 is_called word None = false
 is_called word (Some name) = bytes_eq word name
@@ -22,11 +23,12 @@ is_called word (Some name) = bytes_eq word name
 abbrev pub fits : List ℕ → (of : List (List ℕ)) → Name → Bool
 fits word of name = is_called word name.word && are_within of name.above
 
+-- the item of this number as what was found
 abbrev pub found_at : ℕ → Option Name → Referent
 found_at item None = found.Unknown
 found_at item (Some name) = found.Item item name.kind name.dims
 
--- the first that fits, where none behind it does
+-- the first item that fits, where none after it does
 abbrev pub found_from : List Name → List ℕ → List (List ℕ) → Option ℕ → Referent
 found_from names word of None = found.Unknown
 found_from names word of (Some item) =
@@ -34,11 +36,14 @@ found_from names word of (Some item) =
     then found.Ambiguous
     else found_at item (slice_get names item)
 
+-- the one entry that a reference fits; none, or that it is ambiguous
 abbrev pub find : List Name → List ℕ → List (List ℕ) → Referent
 find names word of = found_from names word of (position (fits word of) names)
 
+-- what a reference to an item stands for
 abbrev pub look : Names → List ℕ → List (List ℕ) → Referent
 look names word of = find names.items word of
 
+-- the number of the file with this name
 abbrev pub look_file : Names → List ℕ → Option ℕ
 look_file names word = position (bytes_eq word) names.files

@@ -1,11 +1,11 @@
--- How entries are nested: what each of them stands in, and whether items stand in it.
+-- How entries are nested: what each of them is in, and whether items are in it.
 use Rattle.std.specs.Prelude.{ℕ, ◌+◌, List, [], ◌∷◌, length, take, reverse, Option, Some, None, if◌then◌else◌}
 use Rattle.cob_tree.specs.declared.entry.Entry.{Entry}
 use Rattle.symbol_tables.specs.declared.data_names.nesting.Nesting.{Nesting}
 use Rattle.symbol_tables.specs.data_names.Grouping.{bound_of, groups_of, holds, same_file}
 use Rattle.symbol_tables.specs.data_names.Names.{is_group}
 
--- the number of the nearest item that one bounded so stands in, among those before it, the last
+-- the number of the nearest item that one bounded so is in, among those before it, the last
 -- first
 unfoldable pub nearest : (bound : ℕ) → Option ℕ → (before : List Entry) → Option ℕ
 nearest bound file [] = None
@@ -14,18 +14,20 @@ nearest bound file (other ∷ before) =
     then (if holds bound other then Some (length before) else nearest bound file before)
     else None
 
--- an entry between those before it, the last first, and those behind it
+-- how an entry is nested between those before it, the last first, and those after it
 abbrev pub nesting_of : (before : List Entry) → Entry → (behind : List Entry) → Nesting
 nesting_of before entry behind = record {
   holder = nearest (bound_of entry.level) entry.file before;
   group = is_group entry behind;
 }
 
+-- how these entries are nested, those before them the last first
 unfoldable pub nestings_from : (before entries : List Entry) → List Nesting
 nestings_from before [] = []
 nestings_from before (entry ∷ behind) =
     nesting_of before entry behind ∷ nestings_from (entry ∷ before) behind
 
+-- how the entries of a program are nested
 abbrev pub nestings_of : List Entry → List Nesting
 nestings_of entries = nestings_from [] entries
 

@@ -1,5 +1,5 @@
 -- Which paragraphs and sections a division has, as its headers tell: a name at the beginning of the
--- division or behind a period is a header, and SECTION behind it makes it a section (ISO 1989:1985,
+-- division or after a period is a header, and SECTION after it makes it a section (ISO 1989:1985,
 -- PROCEDURE DIVISION). Paragraphs have numbers in the order of the text. A section without a
 -- paragraph has an empty one, as has a division without any, and sentences before a first name are
 -- a paragraph without name.
@@ -24,12 +24,15 @@ use Rattle.symbol_tables.specs.declared.procedure_names.scan.Scan.{Scan}
 
 -- ---- headers
 
+-- the byte is a digit
 abbrev pub is_digit : ℕ → Bool
 is_digit byte = nat_le 48 byte && nat_le byte 57
 
+-- there are 1 to 30 bytes
 abbrev pub is_short : ℕ → Bool
 is_short bytes = nat_lt 0 bytes && nat_le bytes 30
 
+-- each byte is a digit
 abbrev pub are_digits : List ℕ → Bool
 are_digits digits = list_all is_digit digits
 
@@ -45,13 +48,14 @@ header_name _ = None
 
 -- ---- paragraphs as they are counted
 
--- nothing is found yet
+-- the scan before the first token: nothing is found yet
 abbrev pub start : Scan
 start = record {
   found = record { names = []; headers = []; starts = []; count = 0 };
   awaited = awaited.Division;
 }
 
+-- the table with this header, where its name is new
 abbrev pub named_by : Option ℕ → List ℕ → Header → ProcedureTable → ProcedureTable
 named_by (Some number) name header table = table
 named_by None name header table =
@@ -61,49 +65,54 @@ named_by None name header table =
 abbrev pub with_name : List ℕ → Header → ProcedureTable → ProcedureTable
 with_name name header table = named_by (position (bytes_eq name) table.names) name header table
 
--- one paragraph more where a section has none
+-- how many paragraphs there are, with one more where a section has none
 abbrev pub with_empty : Awaited → ℕ → ℕ
 with_empty awaited.Division count = count
 with_empty awaited.Section count = count + 1
 with_empty awaited.Nothing count = count
 
+-- how many paragraphs were found, with the empty one that a section may need
 abbrev pub whole_count : Scan → ℕ
 whole_count scan = with_empty scan.awaited scan.found.count
 
--- a section whose first paragraph has this number
+-- the table with a section whose first paragraph has this number
 abbrev pub with_section : List ℕ → (index first : ℕ) → ProcedureTable → ProcedureTable
 with_section name index first table =
     with_name name (record { first = first; section = Some (length table.starts); index = index })
     (record table { starts = table.starts ++ first ∷ []; count = first })
 
+-- the table with one paragraph more, of this name
 abbrev pub with_paragraph : List ℕ → (index : ℕ) → ProcedureTable → ProcedureTable
 with_paragraph name index table =
     with_name name (record { first = table.count; section = None; index = index })
     (record table { count = table.count + 1 })
 
--- sentences behind no header are a paragraph where one is awaited
+-- the table after sentences without a header, which are a paragraph where one is awaited
 abbrev pub with_sentences : Awaited → ProcedureTable → ProcedureTable
 with_sentences awaited.Division table = record table { count = table.count + 1 }
 with_sentences awaited.Section table = record table { count = table.count + 1 }
 with_sentences awaited.Nothing table = table
 
+-- the scan after the header of a section
 abbrev pub section_headed : List ℕ → (index : ℕ) → Scan → Scan
 section_headed name index scan = record {
   found = with_section name index (whole_count scan) scan.found;
   awaited = awaited.Section;
 }
 
+-- a paragraph begins here
 abbrev pub paragraph_headed : List ℕ → (index : ℕ) → Scan → Scan
 paragraph_headed name index scan = record {
   found = with_paragraph name index scan.found;
   awaited = awaited.Nothing;
 }
 
+-- a section or a paragraph begins here
 abbrev pub headed : (is_section : Bool) → List ℕ → (index : ℕ) → Scan → Scan
 headed true name index scan = section_headed name index scan
 headed false name index scan = paragraph_headed name index scan
 
--- behind END no sentences follow
+-- the scan after what begins without a header: sentences, unless it is END
 abbrev pub unheaded : (is_end : Bool) → Scan → Scan
 unheaded true scan = scan
 unheaded false scan = record {
@@ -111,11 +120,12 @@ unheaded false scan = record {
   awaited = awaited.Nothing;
 }
 
+-- what begins here: a header if there is a name, else sentences or the end
 abbrev pub begun_by : Option (List ℕ) → (is_section is_end : Bool) → (index : ℕ) → Scan → Scan
 begun_by (Some name) is_section is_end index scan = headed is_section name index scan
 begun_by None is_section is_end index scan = unheaded is_end scan
 
--- a token that stands where a header may, with the tokens behind it
+-- the scan after a token that is where a header may be, with the tokens after it
 abbrev pub begun : TokenKind → List Token → (index : ℕ) → Scan → Scan
 begun kind behind index scan =
     begun_by (header_name kind) (begins_by (is_key (codes "SECTION")) (next behind))
@@ -123,38 +133,43 @@ begun kind behind index scan =
 
 -- ---- the tokens from the left
 
+-- after this token, where a header may begin with it or not
 abbrev pub turned : (may_head : Bool) → TokenKind → List Token → (index : ℕ) → Scan → Scan
 turned true kind behind index scan = begun kind behind index scan
 turned false kind behind index scan = scan
 
+-- after these tokens
 unfoldable pub scanned : List Token → (may_head : Bool) → (index : ℕ) → Scan → Scan
 scanned [] may_head index scan = scan
 scanned (t ∷ ts) may_head index scan =
     scanned ts (is_period t.kind) (index + 1) (turned may_head t.kind ts index scan)
 
--- a division without paragraphs has an empty one
+-- how many paragraphs a division has; one without paragraphs has an empty one
 abbrev pub at_least_one : ℕ → ℕ
 at_least_one count = if count == 0 then 1 else count
 
+-- the paragraphs and sections of a division, at its end
 abbrev pub closed : Scan → ProcedureTable
 closed scan = record scan.found { count = at_least_one (whole_count scan) }
 
--- the paragraphs and sections of these tokens, before which so many stand
+-- the paragraphs and sections of these tokens, before which there are so many
 abbrev pub procedures_of : List Token → (index : ℕ) → ProcedureTable
 procedures_of tokens index = closed (scanned tokens true index start)
 
 -- no more names, sections and paragraphs than this
 pub record IsWithin (limit : ℕ) (scan : Scan) : Type 0 where
   pub names : length scan.found.names ≤ limit
+  -- the sections
   pub starts : length scan.found.starts ≤ limit
   pub count : whole_count scan ≤ limit
 
--- there is room for one more of each
+-- there is room for one more name, section and paragraph
 abbrev pub HasRoom : Scan → Type 0
 HasRoom scan = IsWithin (2 ^ 32 - 2) scan
 
 -- ---- what a name stands for
 
+-- the header with this number
 abbrev pub header_at : Option ℕ → ProcedureTable → Option Header
 header_at None table = None
 header_at (Some number) table = slice_get table.headers number

@@ -1,4 +1,4 @@
-//! What stands above an entry.
+//! The groups above an entry.
 
 ghost use Rattle.std.specs.Prelude.{◌≡◌, ◌++◌, ◌<◌, ◌≤◌, ◌^◌, IfOk, OnOk, length};
 ghost use Rattle.symbol_tables.specs.data_names.Grouping.{dims_in, group_words, word_list};
@@ -10,8 +10,7 @@ use cob_base::{Items, NoMemory, Word};
 use cob_tree::Entry;
 use std::alloc::Global;
 
-/// What stands above an entry: the names of its groups, the nearest first, and how many of them
-/// repeat.
+/// The names of the groups above an entry, the nearest first, and how many of these groups repeat.
 #[derive(Debug, Drop)]
 pub struct Above {
     pub words: Items<Word>,
@@ -27,7 +26,7 @@ fn add_word(words: &mut Items<Word>, word: Option<Word>) -> Result<(), NoMemory>
     }
 }
 
-/// What stands above an entry that stands in this one.
+/// The groups above an entry that is in this one.
 pub fn groups_above(
     alloc: Global,
     entries: &[Entry],

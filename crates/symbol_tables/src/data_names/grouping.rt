@@ -1,4 +1,4 @@
-//! The groups that an entry stands in.
+//! The groups of entries, by their levels.
 
 ghost use Rattle.std.specs.Prelude.{◌≡◌};
 ghost use Rattle.symbol_tables.specs.data_names.Grouping.{bound_of, has_items, holds, is_numbered, repeats, same_file};
@@ -12,21 +12,21 @@ pub fn is_numbered(level: u8) -> bool
     0 < level && level < 50
 }
 
-/// What an entry of this level stands in has a lower level than this.
+/// The bound on the level of an entry's group: this must be lower.
 pub fn bound_of(level: u8) -> u8
     ensures { result ≡ bound_of level }
 {
     if level < 50 || level == 88 { level } else { 0 }
 }
 
-/// Whether it is an item that something stands in which is bounded so.
+/// Whether an entry with this bound may be in this item.
 pub fn holds(bound: u8, entry: &Entry) -> bool
     ensures { result ≡ holds bound entry.now }
 {
     (is_numbered(entry.level) || entry.level == 77) && entry.level < bound
 }
 
-/// Whether two entries stand in one FD, or both in working storage.
+/// Whether two entries are in the same FD, or both in working storage.
 pub fn same_file(file: Option<u32>, other: Option<u32>) -> bool
     ensures { result ≡ same_file file other }
 {
@@ -37,14 +37,14 @@ pub fn same_file(file: Option<u32>, other: Option<u32>) -> bool
     }
 }
 
-/// Whether it stands under OCCURS itself.
+/// Whether it has an OCCURS clause itself.
 pub fn repeats(entry: &Entry) -> bool
     ensures { result ≡ repeats entry.now }
 {
     entry.occurs.is_some()
 }
 
-/// Whether an entry of this level and file has items below it among the entries behind it.
+/// Whether an entry of this level and file has items below it among the entries after it.
 pub fn has_items(level: u8, file: Option<u32>, behind: &[Entry]) -> bool
     ensures { result ≡ has_items level file behind.now }
 {

@@ -1,4 +1,4 @@
-//! Words to the numbers of the entries that they name, or may qualify.
+//! From words to the numbers of the entries that they name, or may qualify.
 
 ghost use Rattle.std.specs.Prelude.{◌≡◌, ◌++◌, ◌∷◌, [], List, ℕ, cond, length, nat_lt, OnOk, if◌then◌else◌};
 ghost use Rattle.std.specs.List.{list_any};

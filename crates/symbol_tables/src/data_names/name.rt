@@ -2,12 +2,12 @@
 
 use cob_base::{Items, Word};
 
-/// What an item holds, as far as its uses go.
+/// What an item holds, as far as its uses need it.
 #[derive(Clone, Copy, Debug, PartialEq, Eq)]
 pub enum ItemKind {
     /// A number; whether it is without decimals.
     Number { whole: bool },
-    /// A lowest item of characters.
+    /// An elementary item of characters.
     Text,
     /// An item with items below it.
     Group,

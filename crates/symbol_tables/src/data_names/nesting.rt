@@ -1,4 +1,4 @@
-//! How entries are nested, by a table that each entry's search begins with.
+//! How entries are nested, by a table in which each entry's search begins.
 
 ghost use Rattle.std.specs.Prelude.{◌≡◌, ◌+◌, ◌<◌, ◌≤◌, Some, length, take, drop, reverse, nat_le, slice_get, if◌then◌else◌};
 ghost use Rattle.cob_base.specs.Answers.{Makes};
@@ -14,7 +14,7 @@ use std::alloc::Global;
 /// How an entry is nested among those of its program.
 #[derive(Clone, Copy, Debug)]
 pub struct Nesting {
-    /// The number of the item or group that it stands in.
+    /// The number of the item or group that it is in.
     pub holder: Option<usize>,
     /// Whether it is an item with items below it.
     pub group: bool,
@@ -34,7 +34,8 @@ fn one_before(number: usize) -> Option<usize>
     if number > 0 { Some(number - 1) } else { None }
 }
 
-// Nothing between an entry and what it stands in holds what is bounded as low.
+// Where a search goes on: an entry between this one and its group doesn't hold what has as low a
+// bound.
 fn next_for(bound: u8, other: &Entry, nesting: Nesting, number: usize) -> Option<usize>
     ensures { nested.count_to result
         ≡ (if nat_le bound (bound_of other.now.level) then nested.count_to nesting.holder

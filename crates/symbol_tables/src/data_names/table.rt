@@ -24,7 +24,7 @@ use std::marker::Model;
 
 /// The names of a program's files and items, each by its number.
 ///
-/// A contract sees a table as the names of the entries and those of the files, in their order.
+/// Contracts see a table as the names of the entries and those of the files, in their order.
 #[derive(Drop)]
 pub struct NameTable {
     items: Items<Name>,
@@ -77,7 +77,7 @@ impl NameTable {
         find_among(self.items.as_slice(), places, word, of)
     }
 
-    /// The number of the file of this name, from 0; where two have it, of the first.
+    /// The number of the file of this name, from 0; where two have it, that of the first.
     pub fn look_file(&self, word: &Word) -> Option<u32>
         ensures { result ≡ look.look_file self.now word.now }
     {
@@ -123,7 +123,7 @@ fn picture_kind(picture: Option<Picture>) -> ItemKind
     }
 }
 
-/// Whether it is an item with items below it, where these entries stand behind it.
+/// Whether it is an item with items below it, where these entries come after it.
 pub fn is_group(entry: &Entry, behind: &[Entry]) -> bool
     ensures { result ≡ names.is_group entry.now behind.now }
 {

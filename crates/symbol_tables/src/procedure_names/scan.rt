@@ -164,7 +164,7 @@ fn headed(scan: Scan, is_section: bool, name: Word, index: usize) -> Result<Scan
     }
 }
 
-/// With a token that stands where a header may.
+/// The scan after a token that comes where a header may be.
 fn begun(scan: Scan, kind: &TokenKind, behind: &[Token], index: usize) -> Result<Scan, NoMemory>
     requires { procedures.HasRoom scan }
     ensures { Makes (procedures.begun kind.now behind.now index scan) result }
@@ -242,8 +242,8 @@ fn closed(scan: Scan) -> ProcedureTable
     found
 }
 
-/// The paragraphs and sections of the tokens behind so many of them, which are those behind the
-/// header of the division. What the statements are is not looked at.
+/// The paragraphs and sections of the tokens after the first `from`, which are those after the
+/// header of the division. The statements aren't read.
 pub fn procedures_of(
     alloc: Global,
     tokens: &[Token],

@@ -9,14 +9,14 @@ use cob_base::{Items, NoMemory, Word};
 use cob_words::WordTable;
 use parser_combinators::{NameKind, Note, Position};
 
-/// A header, of those with its name the first.
+/// The first header with a name.
 #[derive(Clone, Copy, Debug, PartialEq, Eq)]
 pub struct Header {
     /// The number of its first paragraph.
     pub first: u32,
-    /// How many sections stand before it, where it is one.
+    /// How many sections come before it, where it is one.
     pub section: Option<u32>,
-    /// How many tokens stand before it.
+    /// How many tokens come before it.
     pub index: usize,
 }
 

@@ -41,3 +41,6 @@ returns-then-len-clause-ends g c = never_begun c.args.program.now c.args.steps (
 
 pub returns-in_default-clause-ends : goal.returns-in_default-clause-ends
 returns-in_default-clause-ends g c = never_begun c.args.program.now c.args.steps (g.K.Sink.held c.args.out.now) (g.K.Sink.faults c.args.out.now) c.args.bench.now.left _
+
+pub returns-in_default-name_room-clause-ends : goal.returns-in_default-name_room-clause-ends
+returns-in_default-name_room-clause-ends g c = never_begun c.args.program.now c.args.steps (g.K.Sink.held c.args.out.now) (g.K.Sink.faults c.args.out.now) c.args.bench.now.left _

@@ -1,4 +1,4 @@
-use Rattle.std.proofs.Common.{[], ◌∷◌, ◌∙◌, arith, map, refl, subst, take}
+use Rattle.std.proofs.Common.{◌≡◌, ◌+◌, [], ◌∷◌, ◌∙◌, arith, map, refl, subst, take}
 use Rattle.cob_base.specs.Sink.{sink_call}
 use Rattle.file_model.specs.contracts.operations.watched.BoxDynDeviceWatched.TheImpl.{seen-value}
 use Rattle.cobol_run.specs.declared.held.Plan.{Plan}
@@ -10,13 +10,14 @@ use Rattle.file_model.specs.operations.Falling.{is_used, name_behind}
 use Rattle.file_model.proofs.operations_lemmas.ShutLemmas.{nothing_shut}
 use Rattle.cobol_run.proofs.FallLemmas.{none_fell, turn_after}
 use Rattle.cobol_run.proofs.OverRunLemmas.{comes_failed, over_goes_on_yet, over_one_more}
-use Rattle.cobol_run.proofs.ShutLemmas.{names_named}
+use Rattle.cobol_run.proofs.ShutLemmas.{names_named, never_unnamed}
 use Rattle.cobol_run.proofs.RunningLemmas.{goes_on_yet, one_more}
 use Rattle.cobol_run.proofs.running.run_on.Goals as goal
 
 pub loop-turn-preserved : goal.loop-turn-preserved
 loop-turn-preserved g c = record {
   plan = c.make_turn.ensures.plan ∙ c.loop-turn.invariant.plan;
+  room = c.loop-turn.invariant.room;
   later = omega (arith, c.make_turn.ensures.later, c.loop-turn.invariant.later);
   so_far = λ program start.
       one_more _ _ _ _ (c.in-On.ensures.turned program c.loop-turn.turn (g.K.Sink.held c.args.out.now) (g.K.Sink.faults c.args.out.now) (c.loop-turn.invariant.so_far program start));
@@ -115,11 +116,22 @@ returns-in-Failed-clause-ends g c =
       gone = name_behind c.make_turn.new.bench.left (map (seen-value g.dyn-1).it c.make_turn.new.bench.devices.items) ∷ [];
       bench = fell.0;
       apart = fell.1;
-      names = names_named c.device_fault.result (is_used (addresses_of c.args.machine.now.plan.program.now.files)) [] (name_behind c.make_turn.new.bench.left (map (seen-value g.dyn-1).it c.make_turn.new.bench.devices.items)) c.args.bench.now.left c.make_turn.new.bench.left _ (map (seen-value g.dyn-1).it c.args.bench.now.devices.items) (map (seen-value g.dyn-1).it c.make_turn.new.bench.devices.items) fell.0 c.device_fault.ensures.named (omega arith);
+      names = names_named _ c.device_fault.result (is_used (addresses_of c.args.machine.now.plan.program.now.files)) [] (name_behind c.make_turn.new.bench.left (map (seen-value g.dyn-1).it c.make_turn.new.bench.devices.items)) c.args.bench.now.left c.make_turn.new.bench.left _ (map (seen-value g.dyn-1).it c.args.bench.now.devices.items) (map (seen-value g.dyn-1).it c.make_turn.new.bench.devices.items) fell.0 c.device_fault.ensures.named (omega arith);
       files = λ program files own begun.
-          comes_failed program files c.args.steps (sink_call g.K.Sink.held g.K.Sink.faults c.args.out.now c.make_turn.new.out) (OpenYet (name_behind c.make_turn.new.bench.left (map (seen-value g.dyn-1).it c.make_turn.new.bench.devices.items) ∷ []) c.make_turn.new.machine (take c.make_turn.new.bench.left (map (seen-value g.dyn-1).it c.make_turn.new.bench.devices.items))) c.device_fault.result _ c.device_fault.ensures.named
+          comes_failed program files c.args.steps (sink_call g.K.Sink.held g.K.Sink.faults c.args.out.now c.make_turn.new.out) (OpenYet (name_behind c.make_turn.new.bench.left (map (seen-value g.dyn-1).it c.make_turn.new.bench.devices.items) ∷ []) c.make_turn.new.machine (take c.make_turn.new.bench.left (map (seen-value g.dyn-1).it c.make_turn.new.bench.devices.items))) c.device_fault.result _ _ c.device_fault.ensures.named
           (c.in-Failed.ensures.over program files c.loop-turn.turn (g.K.Sink.held c.args.out.now) (g.K.Sink.faults c.args.out.now) own (c.loop-turn.invariant.over program files own begun) c.args.steps c.loop-turn-test.true);
     }
+
+pub returns-in-Failed-clause-memory : goal.returns-in-Failed-clause-memory
+returns-in-Failed-clause-memory g c = λ is.
+    let fell = turn_after turned.Failed c.args.machine.now.plan.program.now.files c.args.bench.now.left c.loop-turn.bench.left c.make_turn.new.bench.left (map (seen-value g.dyn-1).it c.args.bench.now.devices.items) (map (seen-value g.dyn-1).it c.loop-turn.bench.devices.items) (map (seen-value g.dyn-1).it c.make_turn.new.bench.devices.items) c.make_turn.new.machine.table.rows c.loop-turn.invariant.falls (subst (λ (p : Plan). TurnFalls turned.Failed p.program.now.files c.loop-turn.bench.left c.make_turn.new.bench.left (map (seen-value g.dyn-1).it c.loop-turn.bench.devices.items) (map (seen-value g.dyn-1).it c.make_turn.new.bench.devices.items) c.make_turn.new.machine.table.rows) c.loop-turn.invariant.plan c.in-Failed.ensures.falls) in
+    absurd (never_unnamed _ c.device_fault.result (is_used (addresses_of c.args.machine.now.plan.program.now.files)) [] (name_behind c.make_turn.new.bench.left (map (seen-value g.dyn-1).it c.make_turn.new.bench.devices.items)) c.args.bench.now.left c.make_turn.new.bench.left _ (map (seen-value g.dyn-1).it c.args.bench.now.devices.items) (map (seen-value g.dyn-1).it c.make_turn.new.bench.devices.items) c.requires fell.0 (omega arith) c.device_fault.ensures.named is)
+
+pub returns-in-NoMemory-clause-memory : goal.returns-in-NoMemory-clause-memory
+returns-in-NoMemory-clause-memory g c = λ is.
+    let bench = turn_after turned.NoMemory c.args.machine.now.plan.program.now.files c.args.bench.now.left c.loop-turn.bench.left c.make_turn.new.bench.left (map (seen-value g.dyn-1).it c.args.bench.now.devices.items) (map (seen-value g.dyn-1).it c.loop-turn.bench.devices.items) (map (seen-value g.dyn-1).it c.make_turn.new.bench.devices.items) c.make_turn.new.machine.table.rows c.loop-turn.invariant.falls (subst (λ (p : Plan). TurnFalls turned.NoMemory p.program.now.files c.loop-turn.bench.left c.make_turn.new.bench.left (map (seen-value g.dyn-1).it c.loop-turn.bench.devices.items) (map (seen-value g.dyn-1).it c.make_turn.new.bench.devices.items) c.make_turn.new.machine.table.rows) c.loop-turn.invariant.plan c.in-NoMemory.ensures.falls) in
+    let count : c.make_turn.new.bench.left + 0 ≡ c.args.bench.now.left = bench.count in
+    omega (arith, count)
 
 pub returns-clause-ends : goal.returns-clause-ends
 returns-clause-ends g c = record {
@@ -134,6 +146,7 @@ returns-clause-ends g c = record {
 pub loop-turn-init : goal.loop-turn-init
 loop-turn-init g c = record {
   plan = refl;
+  room = refl;
   later = omega arith;
   so_far = λ program start. start;
   over = λ program files own start. start;

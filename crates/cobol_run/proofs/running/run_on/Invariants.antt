@@ -12,6 +12,7 @@ use Rattle.cobol_run.proofs.running.run_on.Given as goal
 abbrev pub invariant-loop-turn : goal.invariant-loop-turn
 invariant-loop-turn g l = record {
   plan : l.machine.plan ≡ l.initial.machine.plan;
+  room : l.room ≡ l.initial.room;
   later : g.K.Sink.faults l.initial.out ≤ g.K.Sink.faults l.out;
   so_far : (program : Program) → SoFar program l.initial.machine 0 (since (g.K.Sink.held l.initial.out) (g.K.Sink.faults l.initial.out) (g.K.Sink.held l.initial.out) (g.K.Sink.faults l.initial.out)) →
       SoFar program l.machine l.turn (since (g.K.Sink.held l.initial.out) (g.K.Sink.faults l.initial.out) (g.K.Sink.held l.out) (g.K.Sink.faults l.out));

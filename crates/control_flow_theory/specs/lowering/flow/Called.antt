@@ -18,6 +18,7 @@ module _ (told : FlowFacts) (program : Program) (range : Range) where
       × FreelyComes told program range number (Do (Perform entry exit) ∷ rest)
 
   abbrev mutual
+    -- each range that the statement performs is called
     pub CallsStmt : Stmt → Type 0
     CallsStmt (language.Do act) = Unit {0}
     CallsStmt (Choose picker arms) = CallsArms arms
@@ -31,20 +32,24 @@ module _ (told : FlowFacts) (program : Program) (range : Range) where
     CallsStmt (ExitPerform cycle) = Unit {0}
     CallsStmt StopRun = Unit {0}
 
+    -- each range that these statements perform is called
     pub CallsStmts : Stmts → Type 0
     CallsStmts none = Unit {0}
     CallsStmts (also stmt stmts) = CallsStmt stmt × CallsStmts stmts
 
+    -- each range that these arms perform is called
     pub CallsArms : Arms → Type 0
     CallsArms done = Unit {0}
     CallsArms (given arm others) = CallsStmts arm × CallsArms others
     CallsArms (missing others) = CallsArms others
 
+    -- each range that a loop's body performs is called
     pub CallsBody : Body → Type 0
     CallsBody (Nested stmts) = CallsStmts stmts
     CallsBody (Performed entry exit) = IsCalled entry exit
 
   abbrev mutual
+    -- each range that the trees of an end perform is called
     pub CallsEnd : End → Type 0
     CallsEnd (Pick picker arms) = CallsTrees arms
     CallsEnd (Jump to) = Unit {0}
@@ -52,10 +57,12 @@ module _ (told : FlowFacts) (program : Program) (range : Range) where
     CallsEnd Stop = Unit {0}
     CallsEnd Dead = Unit {0}
 
+    -- each range that these trees perform is called
     pub CallsTrees : Trees → Type 0
     CallsTrees no_more = Unit {0}
     CallsTrees (more (tree body end) others) = CallsStmts body × CallsEnd end × CallsTrees others
 
+  -- each range that the tree performs is called
   abbrev pub CallsTree : Tree → Type 0
   CallsTree (tree body end) = CallsStmts body × CallsEnd end
 

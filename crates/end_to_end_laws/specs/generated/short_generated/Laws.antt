@@ -5,6 +5,7 @@ use Rattle.cobol_print.specs.Unit.{all_tokens}
 use Rattle.program_gen.specs.Generated.{generated}
 use Rattle.cobol_print.specs.units.Division.{program_units}
 
+-- what is printed of each generated program is within the limits of bytes and tokens
 abbrev pub GeneratedProgramsAreShort : Type 0
 GeneratedProgramsAreShort =
     (n : ℕ) → n ≤ 1249 →

@@ -12,6 +12,7 @@ use Rattle.cobol_read.specs.Program.{nameless, statements_at, declarations_of, p
 use Rattle.cobol_read.specs.Status.{status}
 use Rattle.end_to_end_laws.specs.read_programs.division_readings.Same.{SameDivisions}
 
+-- the divisions before the PROCEDURE DIVISION are read alike over any names and entries
 abbrev pub DivisionsReadTheSame : Type 0
 DivisionsReadTheSame =
     (names others : Names) (entries more : List Entry) →
@@ -19,11 +20,15 @@ DivisionsReadTheSame =
 
 -- where headers are counted among all tokens, these paragraphs are read
 pub record AreReadThere (tokens : List Token) (draft : ProgramDraft) (end : Input) : Type 0 where
+  -- where the paragraphs begin
   pub input : Input
+  -- so many tokens come before
   pub taken : input.taken ≡ statements_at tokens (nameless tokens)
   pub rest : input.rest ≡ drop input.taken tokens
+  -- from there the paragraphs are read
   pub reads : (paragraphs (declarations_of tokens)).reads input ≡ Got draft.paragraphs end
 
+-- the paragraphs of a program are read where its headers are counted
 abbrev pub ParagraphsAreReadWhereCounted : Type 0
 ParagraphsAreReadWhereCounted =
     (tokens : List Token) (draft : ProgramDraft) (end : Input) →

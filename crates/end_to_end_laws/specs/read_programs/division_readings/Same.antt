@@ -16,6 +16,7 @@ pub record Selected : Type 0 where
   pub assign : List ℕ
   pub statuses : List Position
 
+-- a SELECT so
 abbrev pub selected_of : SelectDraft → Selected
 selected_of select = record {
   name = select.name;
@@ -24,6 +25,7 @@ selected_of select = record {
   statuses = places_of select.statuses;
 }
 
+-- the two are the same but for what status items stand for
 pub record SameDivisions (one other : Divisions) : Type 0 where
   pub name : one.name ≡ other.name
   pub selects : map selected_of one.selects ≡ map selected_of other.selects

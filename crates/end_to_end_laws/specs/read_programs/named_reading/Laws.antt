@@ -5,6 +5,7 @@ use Rattle.cobol_read.specs.Reading.{Reads}
 use Rattle.control_flow_theory.specs.language.OwnItems.{NamesOwnItems}
 use Rattle.end_to_end_laws.specs.read_programs.named_reading.Named.{IsNamed}
 
+-- what they name is there, and each item is their own
 abbrev pub ProgramsThatAreReadAreNamed : Type 0
 ProgramsThatAreReadAreNamed =
     (bytes : List ℕ) (program : Program) → Reads bytes program →

@@ -9,9 +9,11 @@ use Rattle.grammar_laws.specs.whole_counts.entry_bounds.Bounds.{EntriesBound}
 
 -- what its statements and files name is there
 pub record IsNamed (program : Program) : Type 0 where
+  -- what its statements name is there
   pub own : NamesItsOwn program
   pub files : all (map (file_named (counts_of program)) program.files) ≡ true
   pub entries : EntriesNamed program.entries
+  -- what its entries name is there
   pub bound : EntriesBound (length program.files) program.entries
   -- no more than tokens
   pub few : length program.entries ≤ max_tokens

@@ -17,6 +17,7 @@ pub record DeclareAlike (one other : Declared) : Type 0 where
   pub fault : one.fault ≡ other.fault
   pub names : names_of one.files one.entries ≡ names_of other.files other.entries
 
+-- divisions that are the same but for status items declare alike
 abbrev pub AlikeDivisionsDeclareAlike : Type 0
 AlikeDivisionsDeclareAlike =
     (one other : Divisions) → SameDivisions one other →
@@ -28,6 +29,7 @@ pub record AreItsOwn (tokens : List Token) (declared : Declared) : Type 0 where
   pub entries : (declarations_of tokens).entries ≡ declared.entries
   pub fault : (declarations_of tokens).fault ≡ declared.fault
 
+-- what is declared before a program is read is what its divisions declare
 abbrev pub ProgramsAreReadOverTheirOwnNames : Type 0
 ProgramsAreReadOverTheirOwnNames =
     (tokens : List Token) (draft : ProgramDraft) (end : Input) →

@@ -22,6 +22,7 @@ ReadPartsFit =
     (parts_of (own_names program) program.entries table)
     (kept_of (own_names program) program) program IsPrintable
 
+-- what is printed of them can be read, unless it is too long
 abbrev pub ProgramsThatAreReadAreReadable : Type 0
 ProgramsThatAreReadAreReadable =
     (bytes : List ℕ) (program : Program) → Reads bytes program → IsShort program →

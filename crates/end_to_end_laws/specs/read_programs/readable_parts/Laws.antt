@@ -20,20 +20,26 @@ own_names program = names_of program.files program.entries
 
 -- where no fault is noted
 pub record AreReadable (program : Program) : Type 0 where
+  -- the name of a file gives one that is spelled again
   pub file : Gives IsPrintable (file (own_names program)) (IsFitFile (own_names program) program)
+  -- the name of a record gives one that is spelled again
   pub entry : Gives IsPrintable (record_name (own_names program) program.entries)
       (IsFitRecord (own_names program) program)
+  -- a status item is spelled again
   pub status : ReferencesAreFit (own_names program) program →
       Gives IsPrintable (status (own_names program) program.entries)
       (λ place. SpellsStatus (status (own_names program) program.entries) program (Some place))
 
+-- the parts of each program are readable, over its own names
 abbrev pub NamesAreReadable : Type 0
 NamesAreReadable = (program : Program) → AreReadable program
 
+-- their names may be names, and their values are literals
 abbrev pub ProgramsThatAreReadAreTitled : Type 0
 ProgramsThatAreReadAreTitled =
     (bytes : List ℕ) (program : Program) → Reads bytes program → IsTitled program
 
+-- their files and entries keep the rules, in some sections
 abbrev pub ProgramsThatAreReadKeepRules : Type 0
 ProgramsThatAreReadKeepRules =
     (bytes : List ℕ) (program : Program) → Reads bytes program →
@@ -43,16 +49,19 @@ ProgramsThatAreReadKeepRules =
 abbrev pub HasFitStatuses : Program → Type 0
 HasFitStatuses program = EachStatus (IsFitStatus (own_names program) program) program.files
 
+-- their status items are fit
 abbrev pub ProgramsThatAreReadHaveFitStatuses : Type 0
 ProgramsThatAreReadHaveFitStatuses =
     (bytes : List ℕ) (program : Program) → Reads bytes program →
     ReferencesAreFit (own_names program) program → HasFitStatuses program
 
+-- status items that are fit are spelled by their tokens
 abbrev pub FitStatusesAreStated : Type 0
 FitStatusesAreStated =
     (program : Program) → HasFitStatuses program →
     AreStated (status (own_names program) program.entries) program program.files
 
+-- their status items are spelled by their tokens
 abbrev pub ProgramsThatAreReadAreStated : Type 0
 ProgramsThatAreReadAreStated =
     (bytes : List ℕ) (program : Program) → Reads bytes program →

@@ -26,18 +26,24 @@ EachStatus Has (file ∷ files) = IfAny Has file.status × EachStatus Has files
 module _ (names : Names) (program : Program) where
   -- a reference whose place can be printed so that it is read back
   pub record IsFitReference (side : Side) : Type 0 where
+    -- its place can be printed so
     pub fit : IsPrintablePlace names program (place_of side.what)
+    -- its window has room
     pub room : PlaceHasRoom true 501 0 (place_of side.what)
+    -- the same is known of it
     pub kept : IsOperandSide names program (operands.Place (place_of side.what)) side
 
   -- all that are read with no fault are
   abbrev pub ReferencesAreFit : Type 0
   ReferencesAreFit = Gives IsPrintable (data_reference names) IsFitReference
 
-  -- a status item that can be printed so, of which no fault is told wherever it stands
+  -- a status item that can be printed so, of which no fault is noted wherever it is
   pub record IsFitStatus (place : Place) : Type 0 where
+    -- its place can be printed so
     pub fit : IsPrintablePlace names program place
+    -- its window has room
     pub room : PlaceHasRoom true 501 0 place
+    -- it has two bytes of any kind
     pub suits : (position : Position) →
         kind_fault (judged_operand names program (operands.Place place)).kind
         (is_status program.entries place) position ≡ None
@@ -49,5 +55,7 @@ module _ (names : Names) (program : Program) where
 
   -- a record that was found
   pub record IsFitRecord (side : Side) : Type 0 where
+    -- the record's name finds it
     pub named : IsNamedRecord names program program.entries (entry_of side.what)
+    -- the same is known of it
     pub kept : IsEntrySide names program (entry_of side.what) side

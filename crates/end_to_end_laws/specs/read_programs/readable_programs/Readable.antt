@@ -27,13 +27,14 @@ use Rattle.round_trip.specs.declarations.Named.{IsTitled, AreStated}
 use Rattle.round_trip.specs.spelling.stmt_spelling.Division.{SpellsDivision}
 use Rattle.round_trip.specs.spelling.Kept.{kept_of}
 
--- the units before its paragraphs, and how many tokens they have
+-- the units before the paragraphs of a program
 abbrev pub units_before : Program → List PrintUnit
 units_before program =
     header (codes "IDENTIFICATION") (codes "DIVISION") ∷ program_id program.name
     ∷ environment_units program program.files ++ data_units program program.entries
     ++ header (codes "PROCEDURE") (codes "DIVISION") ∷ []
 
+-- how many tokens are printed before its paragraphs
 abbrev pub tokens_before : Program → ℕ
 tokens_before program = length (all_tokens (units_before program))
 
@@ -50,31 +51,36 @@ abbrev pub own_procedures : Program → ProcedureTable
 own_procedures program =
     procedures_of (drop (tokens_before program) (own_tokens program)) (tokens_before program)
 
--- ---- what stands before its paragraphs
+-- ---- what comes before its paragraphs
 
 -- its status items are spelled over these names
 abbrev pub IsStated : Program → Type 0
 IsStated program = AreStated (status (own_names program) program.entries) program program.files
 
--- its names, numbers, literals and pictures are what a text can have, and no word that it is printed
--- with is left out; its entries stand in such sections that they keep the rules
+-- its names, numbers, literals and pictures are what a text can have, and no word that it is
+-- printed with is left out; its entries are in such sections that they keep the rules
 pub record IsFit (program : Program) : Type 0 where
   pub printable : IsPrintableProgram program
   pub titled : IsTitled program
   pub fds : List Fd
   pub storage : List Entry
+  -- in these sections its entries keep the rules
   pub keeps : KeepsRules program fds storage
+  -- its status items are spelled
   pub stated : IsStated program
   pub none_left_out : first_left_out (own_tokens program) ≡ None
+  -- its items are within the limit of storage
   pub stored : storage_limit false (storage_of program.entries) ≡ None
+  -- it has no more paragraphs than their limit
   pub few : length program.paragraphs ≤ max_paragraphs
 
 -- ---- its paragraphs
 
--- what its statements are made of
+-- what the statements of a program are made of
 abbrev pub own_parts : Program → Parts Side SubjectKind
 own_parts program = parts_of (own_names program) program.entries (own_procedures program)
 
+-- the tokens of its paragraphs spell them
 abbrev pub IsSpelled : Program → Type 0
 IsSpelled program =
     SpellsDivision (own_parts program) (kept_of (own_names program) program) program
@@ -82,10 +88,12 @@ IsSpelled program =
 
 -- ---- within the limits of reading
 
+-- what is printed is within the limits of bytes and tokens
 pub record IsShort (program : Program) : Type 0 where
   pub bytes : length (printed program) ≤ max_source
   pub tokens : length (all_tokens (program_units program)) ≤ max_tokens
 
+-- what is printed of the program can be read
 pub record IsReadable (program : Program) : Type 0 where
   pub fit : IsFit program
   pub spelled : IsSpelled program

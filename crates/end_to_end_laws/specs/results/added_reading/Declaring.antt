@@ -8,12 +8,14 @@ use Rattle.round_trip.specs.declarations.printed_declarations.FileRules.{KeepsRu
 use Rattle.round_trip.specs.declarations.Named.{IsTitled, AreStated}
 use Rattle.end_to_end_laws.specs.read_programs.readable_parts.Laws.{own_names}
 
--- its names may be names, its entries stand in such sections that they keep the rules, and its
+-- its names may be names, its entries are in such sections that they keep the rules, and its
 -- status items are spelled
 pub record DeclaresReadably (program : Program) : Type 0 where
   pub titled : IsTitled program
   pub fds : List Fd
   pub storage : List Entry
+  -- in these sections its entries keep the rules
   pub keeps : KeepsRules program fds storage
+  -- its status items are spelled
   pub stated :
       AreStated (status (own_names program) program.entries) program program.files

@@ -7,12 +7,13 @@ use Rattle.round_trip.specs.declarations.added_entries.Items.{WholeItem, HasAdde
 use Rattle.round_trip.specs.declarations.fresh_items.Laws.{MayBeAdded}
 use Rattle.end_to_end_laws.specs.results.added_reading.Declaring.{DeclaresReadably}
 
+-- they have fewer words than 2^30
 abbrev pub ProgramsThatAreReadHaveFewWords : Type 0
 ProgramsThatAreReadHaveFewWords =
     (bytes : List ℕ) (program : Program) → Reads bytes program →
     length (program_words program) < 2 ^ 30
 
--- with these items behind its entries
+-- a program that is read, with these items after its entries, declares readably
 abbrev pub ProgramsWithItemsDeclareReadably : Type 0
 ProgramsWithItemsDeclareReadably =
     (bytes : List ℕ) (program made : Program) (items : List WholeItem) → Reads bytes program →

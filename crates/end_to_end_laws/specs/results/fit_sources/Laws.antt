@@ -16,7 +16,8 @@ ReadPartsPass =
     PartsFit (parts_of (own_names program) program.entries source)
     (kept_of (own_names program) program) (source_fits program) IsPrintable
 
--- so do the statements of a program, which are in scope and nest no deeper than they may
+-- the statements of a program that is read pass its tests, are in scope and nest no deeper than
+-- they may
 abbrev pub ProgramsThatAreReadFit : Type 0
 ProgramsThatAreReadFit =
     (bytes : List ℕ) (program : Program) → Reads bytes program →

@@ -11,6 +11,7 @@ use Rattle.procedure_split.specs.Splitting.{IsSplit}
 use Rattle.procedure_split.specs.split_behaviour.Alike.{IsWellMade}
 use Rattle.pending_returns.specs.FaultFree.{IsFaultFree}
 
+-- they are well made
 abbrev pub ProgramsThatAreReadAreWellMade : Type 0
 ProgramsThatAreReadAreWellMade =
     (bytes : List ℕ) (program : Program) → Reads bytes program → IsWellMade program
@@ -23,7 +24,8 @@ ProgramsThatAreReadBehaveAlike =
     IsFaultFree program summary → IsSplit program summary made →
     IsStructured (control_of made) × SameBehaviour program made
 
--- and it is structured as the tests of the tree tell it, without EXIT
+-- what a program that is read is split into is structured as the tests of the tree tell it, without
+-- EXIT
 abbrev pub ProgramsThatAreReadAreStructured : Type 0
 ProgramsThatAreReadAreStructured =
     (bytes : List ℕ) (program made : Program) (summary : Summary) → Reads bytes program →

@@ -24,8 +24,8 @@ module _ (program made : Program) (summary : Summary) (split : IsSplit program s
   abbrev pub split_rows : List CellRange
   split_rows = rows_of split.plan.order split.closed
 
-  -- by a plan for its ranges, on which neither the names of parts depend nor which words on cells
-  -- may be written
+  -- how the program is written by a plan for its ranges, on which neither the names of parts depend
+  -- nor which words on cells may be written
   abbrev pub writing_by : Plan → Writing
   writing_by plan = record {
     returning = split.plan.returning;
@@ -47,14 +47,19 @@ pub record TakesBoth (own other kinds : Writable) : Type 0 where
       other.choosers chooser arms ≡ true → kinds.choosers chooser arms ≡ true
   pub amounts : (amount : Amount) → own.amounts amount ≡ true → other.amounts amount ≡ true →
       kinds.amounts amount ≡ true
+  -- a cell that is set to a value
   pub sets : (range : Range) (cell value : ℕ) → own.sets range cell value ≡ true →
       kinds.sets range cell value ≡ true
+  -- a cell that is compared with a value
   pub compares : (range : Range) (cell value : ℕ) → own.compares range cell value ≡ true →
       kinds.compares range cell value ≡ true
+  -- a cell that holds the turns left of a TIMES
   pub counts : (range : Range) (cell : ℕ) → own.counts range cell ≡ true →
       kinds.counts range cell ≡ true
+  -- a cell that is tested for being above zero
   pub aboves : (range : Range) (cell : ℕ) → own.aboves range cell ≡ true →
       kinds.aboves range cell ≡ true
+  -- a cell that chooses among so many arms
   pub chooses : (range : Range) (cell arms : ℕ) → own.chooses range cell arms ≡ true →
       kinds.chooses range cell arms ≡ true
 
@@ -72,6 +77,8 @@ written_sentence naming procedures procedure =
 pub record IsWrittenParagraph (naming : Naming) (procedures : List Procedure)
     (procedure : Procedure) (paragraph : Paragraph) : Type 0 where
   pub sentence : Sentence
+  -- it has one sentence
   pub alone : paragraph.sentences ≡ sentence ∷ []
   pub last : ℕ
+  -- whose control is that
   pub seen : seen_stmts last sentence.stmts ≡ written_sentence naming procedures procedure

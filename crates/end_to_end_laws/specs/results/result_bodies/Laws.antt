@@ -59,8 +59,8 @@ SplitProgramsHaveFewProcedures =
     IsFaultFree program summary →
     IsSplit program summary made → length made.paragraphs ≤ max_nodes
 
--- what a program that can be printed is split into can be printed, where the names of its procedures
--- can, and words and added items are so few that each number behind a name has ten digits
+-- what a program that can be printed is split into can be printed, where the names of its
+-- procedures can, and words and added items are so few that each number after a name has ten digits
 abbrev pub SplitProgramsPrint : Type 0
 SplitProgramsPrint =
     (program made : Program) (summary : Summary) → IsWellMade program →

@@ -15,11 +15,12 @@ use Rattle.round_trip.specs.declarations.added_entries.References.{AreJudgedAlik
 use Rattle.round_trip.specs.declarations.fresh_items.Fresh.{fresh_items}
 use Rattle.round_trip.specs.declarations.fresh_items.Laws.{MayBeAdded}
 
--- in their order, with names that are no words of the program
+-- the items for the cells of these ranges, in their order, with names that are no words of the
+-- program
 abbrev pub items_for : Program → List CellRange → List WholeItem
 items_for program ranges = fresh_items (table_of (program_words program)) (item_kinds ranges)
 
--- the program's own name, files and entries, and these items behind them
+-- the program's own name, files and entries, and these items after them
 pub record DeclaresItems (program made : Program) (ranges : List CellRange) : Type 0 where
   pub name : made.name ≡ program.name
   pub added : HasAdded program (items_for program ranges) made
@@ -36,8 +37,11 @@ cell_number program ranges range cell =
 -- the items may be added: the same is known of the program's own parts, and each cell has an item
 -- whose name stands for it
 pub record ServesCells (program made : Program) (ranges : List CellRange) : Type 0 where
+  -- the items may be added
   pub may : MayBeAdded program (items_for program ranges)
+  -- the same is known of the program's own parts
   pub alike : AreJudgedAlike program made
+  -- the name of a cell's item stands for it
   pub cells : (range : Range) (cell : ℕ) →
       (table_of_cells ranges).stands range cell ≡ true →
       judged_place (known_by made) made (cell_place (cell_number program ranges range cell))

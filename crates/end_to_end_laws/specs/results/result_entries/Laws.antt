@@ -10,6 +10,7 @@ use Rattle.procedure_split.specs.Rows.{rows_of}
 use Rattle.procedure_split.specs.Splitting.{IsSplit}
 use Rattle.end_to_end_laws.specs.results.result_entries.Items.{DeclaresItems, ServesCells}
 
+-- a result declares the items of its cells after the program's own
 abbrev pub SplitProgramsDeclareItems : Type 0
 SplitProgramsDeclareItems =
     (program made : Program) (summary : Summary) (split : IsSplit program summary made) →

@@ -37,11 +37,11 @@ use Rattle.end_to_end_laws.specs.read_programs.readable_programs.Readable.{own_n
 
 -- ---- names
 
--- its words, and so many procedures, are so few that each number behind a name has ten digits
+-- its words, and so many procedures, are so few that each number after a name has ten digits
 abbrev pub AreFew : Program → ℕ → Type 0
 AreFew program count = length (program_words program) + count < 2 ^ 31
 
--- each may be the name of a paragraph, and none stands twice
+-- each may be the name of a paragraph, and none comes twice
 pub record AreTitles (names : List (List ℕ)) : Type 0 where
   pub titled : Each IsTitle names
   pub different : AreDifferent names
@@ -52,6 +52,7 @@ ProcedureNamesAreTitles =
     (program : Program) (order : List Range) → HasProcedures program →
     AreFew program (length order) → AreTitles (names_of program order)
 
+-- the names of procedures can be printed
 abbrev pub ProcedureNamesArePrintable : Type 0
 ProcedureNamesArePrintable =
     (program : Program) (order : List Range) → IsPrintableProgram program →
@@ -64,13 +65,14 @@ abbrev pub ProgramsThatAreReadHaveProcedures : Type 0
 ProgramsThatAreReadHaveProcedures =
     (bytes : List ℕ) (program : Program) → Reads bytes program → HasProcedures program
 
+-- the procedures of a result are told apart by their names
 abbrev pub SplitProgramsHaveProcedures : Type 0
 SplitProgramsHaveProcedures =
     (program made : Program) (summary : Summary) → HasProcedures program →
     AreFew program (length made.paragraphs) → IsSplit program summary made → IsStructured made →
     HasProcedures made
 
--- each of them by itself is named by its label, behind any number of tokens
+-- each of them by itself is named by its label, after any number of tokens
 abbrev pub StructuredProceduresAreRanges : Type 0
 StructuredProceduresAreRanges =
     (program : Program) (taken number : ℕ) → HasProcedures program → IsStructured program →
@@ -79,16 +81,17 @@ StructuredProceduresAreRanges =
 
 -- ---- sentences
 
--- of a structured program
+-- the statements of a structured program are in scope
 abbrev pub NestedStatementsAreInScope : Type 0
 NestedStatementsAreInScope =
     (count here : ℕ) (scope : Scope) (list : List Stmt) → stmts_nest count here list ≡ true →
     are_in_scope list scope ≡ true
 
+-- the sentence has a statement
 abbrev pub IsFilled : Sentence → Type 0
 IsFilled sentence = is_filled sentence.stmts ≡ true
 
--- one statement or more stands in each sentence
+-- one statement or more is in each sentence
 abbrev pub AreFilled : List Paragraph → Type 0
 AreFilled paragraphs = Each (λ paragraph. Each IsFilled paragraph.sentences) paragraphs
 
@@ -125,11 +128,13 @@ FitProgramsAreSpelled =
 abbrev pub is_alone : (count entry exit : ℕ) → Bool
 is_alone count entry exit = entry == exit && nat_lt entry count
 
--- by the names of the program; nothing goes to a label, and each procedure may be performed
+-- the tests of the parts of a result, by the names of the program; nothing goes to a label, and
+-- each procedure may be performed
 abbrev pub result_fits : Program → Fits
 result_fits made =
     own_fits made (λ number. false) (λ entry exit. is_alone (length made.paragraphs) entry exit)
 
+-- the tokens of a result whose statements pass the tests spell it
 abbrev pub FitResultsAreSpelled : Type 0
 FitResultsAreSpelled =
     (program made : Program) (summary : Summary) → HasProcedures program →

@@ -17,7 +17,8 @@ use Rattle.round_trip.specs.fitting_statements.Statement.{fit_stmt}
 use Rattle.round_trip.specs.fitting_statements.own_fits.Own.{cond_fits, operand_fits, own_place, source_fits}
 use Rattle.round_trip.specs.fitting_statements.fit_control.Fit.{without_jumps, fit_chooser}
 
--- a part of the program may be written where it passes, and a word on a cell where its table says so
+-- a part of the program may be written where it passes, and a word on a cell where its table says
+-- so
 abbrev pub fit_kinds : Program → Writing → Writable
 fit_kinds program writing = record (writable_of program writing) {
   simples = fit_stmt (without_jumps (source_fits program));
@@ -30,12 +31,15 @@ fit_kinds program writing = record (writable_of program writing) {
 abbrev pub whole_item : Judged
 whole_item = record { fit = true; kind = kinds.Number true; make = makes.Item; bare = true }
 
--- entries with names of their own stand behind the program's, each of which has an item; and the
--- item of each cell that stands is such a number
+-- entries with names of their own follow the program's, each of which has an item; and the
+-- item of each cell that has an item is such a number
 pub record HasWords (program made : Program) (table : CellTable) : Type 0 where
   pub added_items : List WholeItem
   pub added : HasAdded program added_items made
+  -- none has a name that the program has
   pub new : AreNew program added_items
+  -- each entry is an item
   pub many : items (declared_in program) ≡ length program.entries
+  -- the name of a cell's item stands for it
   pub cells : (range : Range) (cell : ℕ) → table.stands range cell ≡ true →
       own_place made (cell_place (length program.entries + table.item range cell)) ≡ whole_item

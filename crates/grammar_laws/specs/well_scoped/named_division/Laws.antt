@@ -21,6 +21,7 @@ pub record AreCounted (names : Names) (entries : List Entry) (table : ProcedureT
   pub items : length entries ≤ counts.items
   pub told : table.count ≤ counts.paragraphs
 
+-- without a name fault, it gives paragraphs whose statements name what is there
 abbrev pub DivisionGives : Type 0
 DivisionGives =
     (names : Names) (entries : List Entry) (tokens : List Token) (from : ℕ) (counts : Counts) →

@@ -7,6 +7,7 @@ use Rattle.program_facts.specs.well_scoped.Part.{Counts}
 use Rattle.grammar_laws.specs.well_scoped.named_data.Drafts.{DivisionsNamed}
 use Rattle.grammar_laws.specs.well_scoped.named_entries.Entries.{EntriesNamed, file_named}
 
+-- divisions that are named declare, without a fault, entries and files that are named
 abbrev pub EntriesAreNamed : Type 0
 EntriesAreNamed =
     (counts : Counts) (divisions : Divisions) → DivisionsNamed counts divisions →

@@ -10,13 +10,14 @@ pub record AreDeclared (names : Names) (counts : Counts) : Type 0 where
   pub items : length names.items ≤ counts.items
   pub files : length names.files ≤ counts.files
 
--- a reference alone
+-- what was read is a reference alone
 abbrev pub is_reference : ParsedExpr → Bool
 is_reference (whats.Ref place) = true
 is_reference (whats.Literal operand) = false
 is_reference (whats.Enclosed place) = false
 is_reference (whats.Sum expr) = false
 
+-- what was read names what is there
 abbrev pub what_named : Counts → ParsedExpr → Bool
 what_named counts (whats.Ref place) = place_named counts place
 what_named counts (whats.Literal operand) = operand_named counts operand

@@ -1,4 +1,4 @@
--- What the forms on which statements stand are to give, where no fault is noted.
+-- What the forms of which statements are made are to give, where no fault is noted.
 use Rattle.std.specs.Prelude.{ℕ, ◌≡◌, true, List, Some}
 use Rattle.parser_combinators.specs.declared.note.Position.{Position}
 use Rattle.cobol_grammar.specs.stmt_forms.Part.{Parts}
@@ -8,6 +8,7 @@ use Rattle.program_facts.specs.well_scoped.Beside.{cond_named}
 use Rattle.grammar_laws.specs.form_results.Giving.{Gives}
 use Rattle.grammar_laws.specs.form_results.Numbered.{IsNumbered}
 
+-- each form gives what names what is there
 pub record PartsGive (counts : Counts) {Side Known : Type 0} (parts : Parts Side Known) : Type 0
   where
     pub operand : Gives IsNumbered parts.operand

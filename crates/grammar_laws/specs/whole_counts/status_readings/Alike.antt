@@ -7,6 +7,7 @@ pub record SamePlace (p q : Input) : Type 0 where
   pub rest : p.rest ≡ q.rest
   pub taken : p.taken ≡ q.taken
 
+-- both give values that are so related, at the same place, or both stop alike
 abbrev pub AlikeOutcomes : {A B : Type 0} → (A → B → Type 0) → Outcome A → Outcome B → Type 0
 AlikeOutcomes R (Got a p) (Got b q) = R a b × SamePlace p q
 AlikeOutcomes R (Got a p) (Stop why rest) = ⊥

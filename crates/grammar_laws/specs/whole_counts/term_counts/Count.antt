@@ -39,6 +39,7 @@ KeepsWithin {A = A} f = (count before : ℕ) (p : Input) (a : A) (n : ℕ) (q : 
     (f count).reads p ≡ Got (a, n) q → n + before ≤ max_terms →
     (f (count + before)).reads p ≡ Got (a, n + before) q
 
+-- the form is all that for its terms
 pub record IsCounted {A : Type 0} (f : ℕ → Form (A × ℕ)) : Type 0 where
   pub only_counts : OnlyCounts f
   pub counts_alike : CountsAlike f

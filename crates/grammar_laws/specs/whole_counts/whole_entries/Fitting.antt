@@ -21,5 +21,6 @@ is_short (Some (pictures.Number signed whole part)) = nat_le (whole + part) 18
 is_short (Some (pictures.Letters count)) = true
 is_short (Some (pictures.Any count)) = true
 
+-- the entry has such a picture
 abbrev pub has_short_picture : Entry → Bool
 has_short_picture entry = is_short entry.picture

@@ -1,4 +1,4 @@
--- What the forms on which statements stand are to give: a value in which no fault is found as a
+-- What the forms of which statements are made are to give: a value in which no fault is found as a
 -- whole number is one.
 use Rattle.std.specs.Prelude.{ℕ, ◌≡◌, true, List, None}
 use Rattle.cob_tree.specs.declared.entry.Entry.{Entry}
@@ -9,14 +9,17 @@ use Rattle.grammar_laws.specs.form_results.Giving.{Gives}
 use Rattle.grammar_laws.specs.form_results.Numbered.{IsNumbered}
 
 module _ (entries : List Entry) {Side Known : Type 0} (parts : Parts Side Known) where
+  -- without such a fault, the side is a whole number as an operand
   abbrev pub IsWholeAmount : Side → Type 0
   IsWholeAmount side =
       parts.whole_fault side ≡ None → amount_is_whole entries (parts.operand_of side) ≡ true
 
+  -- without such a fault, the side is an item for whole numbers
   abbrev pub IsWholeItem : Side → Type 0
   IsWholeItem side =
       parts.whole_fault side ≡ None → place_is_whole entries (parts.place_of side) ≡ true
 
+  -- each form gives such a value
   pub record PartsCountWhole : Type 0 where
     pub operand : Gives IsNumbered parts.operand IsWholeAmount
     pub reference : Gives IsNumbered parts.reference IsWholeItem

@@ -1,9 +1,9 @@
-use Rattle.std.proofs.Common.{map, subst}
+use Rattle.std.proofs.Common.{Err, ap, inr, map, refl, subst}
 use Rattle.cob_base.specs.Sink.{sink_call}
 use Rattle.file_model.specs.contracts.operations.watched.BoxDynDeviceWatched.TheImpl.{seen-value}
 use Rattle.restructure_core.specs.run.Answers.{Comes, ComesOver}
 use Rattle.restructure_asks.proofs.DeviceLemmas.{device_told, unrun_never}
-use Rattle.restructure_asks.proofs.RunLemmas.{told-run, over-run}
+use Rattle.restructure_asks.proofs.RunLemmas.{never-run, told-run, over-run}
 use Rattle.restructure_asks.proofs.running.answer_run.Goals as goal
 
 pub returns-in-Ok-clause-ends : goal.returns-in-Ok-clause-ends
@@ -23,6 +23,11 @@ returns-in-Ok-clause-over g c =
     (subst (λ b. Comes b c.args.steps out came) c.as_slice.ensures c.run_source-came.ensures.came)
     (subst (λ b. ComesOver b c.args.steps out c.args.bench.now.left c.run_source-came.new.bench.left old new came) c.as_slice.ensures c.run_source-came.ensures.over)
     c.tell.ensures c.run_source-came.ensures.cause
+
+pub returns-in-Err-clause-over : goal.returns-in-Err-clause-over
+returns-in-Err-clause-over g c =
+    let out = sink_call g.K.Sink.held g.K.Sink.faults c.args.out.now c.args.out.now in
+    inr (never-run _ out _ c.in-Err.refusal _ c.in-Err.ensures.only (λ is. c.in-Err.ensures.fault (ap Err is)) (c.in-Err.ensures.within tt) refl c.note.ensures, refl, refl)
 
 pub returns-in-Ok-clause-devices : goal.returns-in-Ok-clause-devices
 returns-in-Ok-clause-devices g c = device_told c.args.steps c.run_source-came.result _ _ _ _ _ _ c.tell.ensures c.run_source-came.ensures.falls

@@ -1,4 +1,4 @@
--- Items for whole numbers, whose entries are added behind those of a program.
+-- Items for whole numbers, whose entries are added after those of a program.
 use Rattle.std.specs.Prelude.{ℕ, ◌≡◌, ◌≤◌, Bool, true, false, not, List, [], ◌∷◌, ◌++◌, map, Some, None}
 use Rattle.std.specs.List.{list_any}
 use Rattle.std.specs.Str.{bytes_eq}
@@ -19,6 +19,7 @@ pub record WholeItem : Type 0 where
   pub digits : ℕ
   pub signed : Bool
 
+-- the number zero as a literal
 abbrev pub zero_literal : Number
 zero_literal = record { negative = false; digits = digit_0 ∷ []; scale = 0 }
 
@@ -36,19 +37,21 @@ whole_entry item = record {
   ranges = [];
 }
 
+-- the entries of these items
 abbrev pub whole_entries : List WholeItem → List Entry
 whole_entries = map whole_entry
 
--- a program with the files and entries of another, and these behind
+-- a program with the files and entries of another, and these after
 pub record HasAdded (program : Program) (items : List WholeItem) (made : Program) : Type 0 where
   pub files : made.files ≡ program.files
   pub entries : made.entries ≡ program.entries ++ whole_entries items
 
--- each has 1 to 18 digits
+-- each item has 1 to 18 digits
 abbrev pub AreSized : List WholeItem → Type 0
 AreSized [] = Unit {0}
 AreSized (item ∷ items) = (1 ≤ item.digits) × (item.digits ≤ 18) × AreSized items
 
+-- the item's name may be a name
 abbrev pub has_title : WholeItem → Bool
 has_title item = is_data_word item.name
 

@@ -9,9 +9,11 @@ use Rattle.round_trip.specs.declarations.added_entries.Items.{WholeItem, whole_e
 
 -- the rules are kept, with the new entries at the end of working storage, and names may be names
 pub record AddedEntriesKeepRules : Type 0 where
+  -- the rules are kept
   pub rules : (program made : Program) (items : List WholeItem) (fds : List Fd)
       (storage : List Entry) → HasAdded program items made → AreSized items →
       KeepsRules program fds storage → KeepsRules made fds (storage ++ whole_entries items)
+  -- names may be names
   pub titles : (program made : Program) (items : List WholeItem) →
       HasAdded program items made → made.name ≡ program.name → AreTitled items →
       IsTitled program → IsTitled made

@@ -17,6 +17,7 @@ use Rattle.round_trip.specs.spelling.expr_spelling.Spelled.{made_place}
 use Rattle.round_trip.specs.spelling.cond_spelling.Printable.{IsPrintableCond}
 use Rattle.round_trip.specs.declarations.added_entries.Items.{WholeItem, HasAdded, AreDifferent, AreNew, AreTitled, is_one_of}
 
+-- the names of a program's files and entries
 abbrev pub known_by : Program → Names
 known_by program = names_of program.files program.entries
 
@@ -34,15 +35,19 @@ pub record AreJudgedAlike (program made : Program) : Type 0 where
 
 -- a word that names no added item stands for what it stood for, and items have their names
 pub record NamesStay : Type 0 where
+  -- a word that names no added item
   pub look : (program made : Program) (items : List WholeItem) (word : List ℕ)
       (of : List (List ℕ)) → HasAdded program items made → is_one_of word items ≡ false →
       look (known_by made) word of ≡ look (known_by program) word of
+  -- the name of a file
   pub file : (program made : Program) (items : List WholeItem) (word : List ℕ) →
       HasAdded program items made →
       look_file (known_by made) word ≡ look_file (known_by program) word
+  -- the name of an item of the program
   pub name : (program made : Program) (items : List WholeItem) (item : ℕ) →
       HasAdded program items made → item < length program.entries →
       item_name made item ≡ item_name program item
+  -- what is known of parts is the same
   pub judged : (program made : Program) (items : List WholeItem) →
       HasAdded program items made → AreNew program items → AreJudgedAlike program made
 
@@ -52,11 +57,13 @@ place_of program number = made_place (length program.entries + number) [] [] Non
 
 -- the name of an added item, alone, stands for it, and it can be printed so, as a whole number
 pub record AddedNamesStand : Type 0 where
+  -- the name of an added item stands for it
   pub look : (program made : Program) (items : List WholeItem) (number : ℕ) (item : WholeItem) →
       HasAdded program items made → AreNew program items → AreDifferent items →
       slice_get items number ≡ Some item →
       look (known_by made) item.name []
       ≡ found.Item (length program.entries + number) (Number true) 0
+  -- and is known as a whole number
   pub judged : (program made : Program) (items : List WholeItem) (number : ℕ)
       (item : WholeItem) → HasAdded program items made → AreNew program items →
       AreDifferent items → AreTitled items → slice_get items number ≡ Some item →

@@ -5,6 +5,7 @@ use Rattle.control_flow_theory.specs.graph_rules.Families.{Added, Never, Flag, C
 use Rattle.out_names.specs.FreshWords.{fresh_number}
 use Rattle.round_trip.specs.declarations.added_entries.Items.{WholeItem}
 
+-- the stem of the names of items of this kind
 abbrev pub stem_of : Added → List ℕ
 stem_of Never = codes "RX-NEVER-"
 stem_of Flag = codes "RX-FLAG-"
@@ -12,6 +13,7 @@ stem_of Count = codes "RX-COUNT-"
 stem_of State = codes "RX-STATE-"
 stem_of Exit = codes "RX-EXIT-"
 
+-- how many digits items of this kind have
 abbrev pub digits_of : Added → ℕ
 digits_of Never = 1
 digits_of Flag = 1
@@ -19,6 +21,7 @@ digits_of Count = 18
 digits_of State = 6
 digits_of Exit = 6
 
+-- whether items of this kind have a sign
 abbrev pub is_signed : Added → Bool
 is_signed Never = false
 is_signed Flag = false
@@ -26,6 +29,7 @@ is_signed Count = true
 is_signed State = false
 is_signed Exit = false
 
+-- the two kinds are one
 abbrev pub same_kind : Added → Added → Bool
 same_kind Never Never = true
 same_kind Flag Flag = true
@@ -38,13 +42,15 @@ same_kind _ _ = false
 abbrev pub NextOf : Type 0
 NextOf = Added → ℕ
 
+-- the numbers, with this one to be tried next for the kind
 abbrev pub with_next : NextOf → Added → ℕ → NextOf
 with_next next kind number other = if same_kind kind other then number else next other
 
+-- the item of this name and kind
 abbrev pub item_named : List ℕ → Added → WholeItem
 item_named name kind = record { name = name; digits = digits_of kind; signed = is_signed kind }
 
--- each takes the next number of its stem with which it is no word of the table
+-- items of these kinds, each with the next number of its stem with which it is no word of the table
 abbrev pub items_from : (words : List (List ℕ)) → NextOf → List Added → List WholeItem
 items_from words next [] = []
 items_from words next (kind ∷ kinds) =
@@ -52,6 +58,7 @@ items_from words next (kind ∷ kinds) =
     item_named (stem_of kind ++ decimal number) kind
     ∷ items_from words (with_next next kind (suc number)) kinds
 
+-- items of these kinds, whose numbers are looked for from 1
 abbrev pub fresh_items : (words : List (List ℕ)) → List Added → List WholeItem
 fresh_items words kinds = items_from words (λ kind. 1) kinds
 

@@ -9,21 +9,25 @@ use Rattle.round_trip.specs.spelling.data_spelling.Sections.{Fd, IsSorted}
 use Rattle.round_trip.specs.spelling.data_spelling.Drafts.{file_title}
 use Rattle.round_trip.specs.declarations.printed_declarations.Rules.{EntriesKeep}
 
+-- the file has this name
 abbrev pub is_named : List ℕ → FileEntry → Bool
 is_named name file = bytes_eq file.name name
 
--- none has the name of one before it
+-- no file has the name of one before it
 abbrev pub AreDistinct : (before files : List FileEntry) → Type 0
 AreDistinct before [] = Unit {0}
 AreDistinct before (file ∷ files) =
     (list_any (is_named file.name) before ≡ false) × AreDistinct (before ++ file ∷ []) files
 
+-- the name of an FD's file
 abbrev pub fd_title : Program → Fd → List ℕ
 fd_title program fd = file_title (slice_get program.files fd.number)
 
+-- the FD is of the file with this name
 abbrev pub is_titled : Program → List ℕ → Fd → Bool
 is_titled program name fd = bytes_eq (fd_title program fd) name
 
+-- none is of the file of one before it
 abbrev pub AreApartFds : Program → (before fds : List Fd) → Type 0
 AreApartFds program before [] = Unit {0}
 AreApartFds program before (fd ∷ fds) =
@@ -42,11 +46,16 @@ AreThere program [] = Unit {0}
 AreThere program (fd ∷ fds) =
     ((file : FileEntry) × (slice_get program.files fd.number ≡ Some file)) × AreThere program fds
 
--- the entries stand in these sections; files, FDs and entries keep the rules
+-- the entries are in these sections; files, FDs and entries keep the rules
 pub record KeepsRules (program : Program) (fds : List Fd) (storage : List Entry) : Type 0 where
+  -- the entries are in these sections
   pub sorted : IsSorted fds storage program.entries
+  -- no two files have one name
   pub distinct : AreDistinct [] program.files
+  -- each FD is of a file that is there
   pub there : AreThere program fds
+  -- no two FDs are of one file
   pub apart : AreApartFds program [] fds
+  -- each file has an FD
   pub described : AreDescribed program fds program.files
   pub entries : EntriesKeep program 0 program.entries

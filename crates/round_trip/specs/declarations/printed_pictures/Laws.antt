@@ -5,6 +5,7 @@ use Rattle.picture_data.specs.Reading.{picture_of}
 use Rattle.cobol_print.specs.units.Picture.{picture_text}
 use Rattle.round_trip.specs.declarations.printed_pictures.Writable.{IsWritable}
 
+-- pictures are read back from their text
 pub record PicturesReadBack : Type 0 where
   -- the text that a picture is printed as is read as that picture
   pub back : (picture : Picture) → IsWritable picture →

@@ -11,8 +11,10 @@ use Rattle.round_trip.specs.fitting_statements.own_fits.Own.{own_names, own_fits
 module _ (table : ProcedureTable) (program : Program) where
   -- what passes as a label or a range is one in this table
   pub record AreInTable (label : ℕ → Bool) (range : ℕ → ℕ → Bool) : Type 0 where
+    -- a paragraph that passes has a label
     pub labels : (number : ℕ) → label number ≡ true →
         (exit : ℕ) × IsLabel table program number (number, exit)
+    -- a range that passes has labels
     pub ranges : (entry exit : ℕ) → range entry exit ≡ true → IsRange table program entry exit
 
 -- what passes a test spells what is asked for that use

@@ -45,6 +45,7 @@ abbrev pub is_at : ℕ → Option ℕ → Bool
 is_at number None = false
 is_at number (Some other) = other == number
 
+-- what was found is the item of this number
 abbrev pub is_item : ℕ → Referent → Bool
 is_item item (found.Item number kind dims) = number == item
 is_item item _ = false
@@ -52,15 +53,19 @@ is_item item _ = false
 module _ (program : Program) where
   -- ---- what is known of parts, by the names of its files and entries
 
+  -- the names of its files and entries
   abbrev pub own_names : Names
   own_names = names_of program.files program.entries
 
+  -- what is known of an operand
   abbrev pub own_operand : Operand → Judged
   own_operand operand = judged_operand own_names program operand
 
+  -- what is known of a place
   abbrev pub own_place : Place → Judged
   own_place place = judged_place own_names program place
 
+  -- what is known of an expression
   abbrev pub own_expr : Expr → Judged
   own_expr expr = judged_expr own_names program expr
 
@@ -70,48 +75,58 @@ module _ (program : Program) where
 
   -- ---- operands and places of such a kind
 
+  -- an operand of such a kind, with room for its window
   abbrev pub operand_fits : (ValueKind → Bool) → Operand → Bool
   operand_fits is_kind operand =
       is_fit_as is_kind (own_operand operand) && operand_has_room operand
 
+  -- a place of such a kind, with room for its window
   abbrev pub place_fits : (ValueKind → Bool) → Place → Bool
   place_fits is_kind place = is_fit_as is_kind (own_place place) && place_has_room 0 place
 
+  -- an expression of such a kind, with no more terms than their limit
   abbrev pub expr_fits : (ValueKind → Bool) → Expr → Bool
   expr_fits is_kind expr =
       is_fit_as is_kind (own_expr expr) && nat_le (expr_terms expr) max_terms
 
+  -- a condition with no more terms than their limit
   abbrev pub cond_fits : Cond → Bool
   cond_fits cond = cond_fit own_names program cond && nat_le (cond_terms cond) max_terms
 
   -- ---- two parts
 
+  -- the operand may be moved to the place
   abbrev pub moves : Operand → Place → Bool
   moves from to =
       may_move (own_operand from).make (own_operand from).kind (own_place to).kind
 
-  -- a file's first record
+  -- a file's first record may be moved to the place
   abbrev pub moves_record : ℕ → Place → Bool
   moves_record file to =
       may_move makes.Item (record_kind program.entries file) (own_place to).kind
 
+  -- the operand may be moved to the record
   abbrev pub moves_to_record : ℕ → Operand → Bool
   moves_to_record entry from =
       may_move (own_operand from).make (own_operand from).kind (kind_of (own_record entry))
 
+  -- the subject may be compared with the expression
   abbrev pub compares : Expr → Expr → Bool
   compares subject expr = may_compare (own_expr subject) (own_expr expr)
 
   -- ---- files and records, which are found by their names
 
+  -- the file's name finds it
   abbrev pub is_named : ℕ → Option FileEntry → Bool
   is_named file None = false
   is_named file (Some entry) =
       is_data_word entry.name && is_at file (look_file own_names entry.name)
 
+  -- the file of this number is found by its name
   abbrev pub file_fits : ℕ → Bool
   file_fits file = is_named file (slice_get program.files file)
 
+  -- the record of this number is found by its name
   abbrev pub record_fits : ℕ → Bool
   record_fits entry =
       is_data_word (item_name program entry)
@@ -119,6 +134,7 @@ module _ (program : Program) where
 
   -- ---- all of them, where these pass as labels and ranges
 
+  -- the tests by what the program declares
   abbrev pub own_fits : (label : ℕ → Bool) → (range : ℕ → ℕ → Bool) → Fits
   own_fits label range = record {
     value = operand_fits has_value;

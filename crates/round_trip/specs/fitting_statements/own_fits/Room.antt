@@ -9,12 +9,14 @@ use Rattle.program_facts.specs.term_counts.Expression as sizes
 use Rattle.program_facts.specs.term_counts.Expression.{expr_terms}
 use Rattle.cob_base.specs.Limit.{max_terms}
 
--- its first expression is counted behind what was counted before, its second one anew
+-- a window has room: its first expression is counted after what was counted before, its second one
+-- anew
 abbrev pub window_has_room : (before : ℕ) → Window → Bool
 window_has_room before window =
     nat_le (before + expr_terms (out-Window window).from) max_terms
     && nat_le (sizes.if_any expr_terms (out-Window window).length) max_terms
 
+-- a place has room for its window
 abbrev pub place_has_room : (before : ℕ) → Place → Bool
 place_has_room before place = if_any (window_has_room before) (out-Place place).window
 

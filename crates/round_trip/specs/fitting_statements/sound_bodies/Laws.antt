@@ -1,5 +1,5 @@
--- What holds of sound bodies. A choice by a cell is sound where it has two arms or more: none of the
--- rules makes one that has fewer.
+-- What holds of sound bodies. A choice by a cell is sound where it has two arms or more: none of
+-- the rules makes one that has fewer.
 use Rattle.std.specs.Prelude.{ℕ, ◌≡◌, Bool, Some, slice_get}
 use Rattle.control_flow_theory.specs.language.Language.{Simple, Program}
 use Rattle.control_flow_theory.specs.rendering.Rendering.{Procedure}

@@ -8,9 +8,11 @@ use Rattle.round_trip.specs.fitting_statements.sound_bodies.Sound.{PickerIsSound
 
 module _ (begins : Simple → Bool) (enough : (cell arms : ℕ) → Bool) where
   abbrev mutual
+    -- the tree is so
     pub TreeIsSound : Tree → Type 0
     TreeIsSound (tree body end) = StmtsAreSound begins enough body × EndIsSound end
 
+    -- the end of a tree is so
     pub EndIsSound : End → Type 0
     EndIsSound (Pick picker arms) =
         PickerIsSound begins enough picker (tree_count arms) × TreesAreSound arms
@@ -19,10 +21,12 @@ module _ (begins : Simple → Bool) (enough : (cell arms : ℕ) → Bool) where
     EndIsSound Stop = Unit {0}
     EndIsSound Dead = Unit {0}
 
+    -- these trees are so
     pub TreesAreSound : Trees → Type 0
     TreesAreSound no_more = Unit {0}
     TreesAreSound (more first others) = TreeIsSound first × TreesAreSound others
 
+  -- the tree of each node is so
   abbrev pub NodesAreSound : List Node → Type 0
   NodesAreSound [] = Unit {0}
   NodesAreSound (node ∷ nodes) = TreeIsSound node.tree × NodesAreSound nodes

@@ -20,6 +20,7 @@ pub record PartsServed (kinds : Writable) : Type 0 where
 
 -- what parts are called can be printed, where they may be written
 pub record NamesPrint (naming : Naming) (kinds : Writable) : Type 0 where
+  -- CONTINUE
   pub nothing : is_printable_stmt naming.nothing ≡ true
   pub simples : (simple : Simple) → kinds.simples simple ≡ true →
       is_printable_stmt (naming.simple simple) ≡ true
@@ -29,13 +30,18 @@ pub record NamesPrint (naming : Naming) (kinds : Writable) : Type 0 where
       chooser_prints (naming.chooser chooser arms) ≡ true
   pub amounts : (amount : Amount) → kinds.amounts amount ≡ true →
       is_printable_operand (naming.amount amount) ≡ true
+  -- a cell is set
   pub set : (range : Range) (cell value : ℕ) → kinds.sets range cell value ≡ true →
       is_printable_stmt (naming.set range cell value) ≡ true
+  -- a cell takes a count
   pub take : (range : Range) (cell : ℕ) (amount : Amount) → kinds.amounts amount ≡ true →
       is_printable_stmt (naming.take range cell amount) ≡ true
+  -- a cell is lowered by one
   pub lower : (range : Range) (cell : ℕ) → is_printable_stmt (naming.lower range cell) ≡ true
+  -- a cell is compared with a number
   pub is : (range : Range) (cell value : ℕ) → kinds.compares range cell value ≡ true →
       is_printable_cond (naming.is range cell value) ≡ true
+  -- a cell is tested for being above zero
   pub above : (range : Range) (cell : ℕ) → is_printable_cond (naming.above range cell) ≡ true
   -- it chooses among as many arms
   pub by_cell : (range : Range) (cell : ℕ) (arms : List Bool) (count : ℕ) →

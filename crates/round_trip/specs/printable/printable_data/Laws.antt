@@ -6,6 +6,7 @@ use Rattle.control_flow_theory.specs.language.All.{all}
 use Rattle.round_trip.specs.printable.Whole.{is_printable_file, is_printable_entry}
 use Rattle.round_trip.specs.printable.printable_data.Drafts.{ArePrintable}
 
+-- such divisions declare files and entries that can be printed
 abbrev pub EntriesArePrintable : Type 0
 EntriesArePrintable =
     (found : Divisions) → ArePrintable found →

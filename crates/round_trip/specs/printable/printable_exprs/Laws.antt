@@ -21,5 +21,6 @@ pub record SidesPrint (names : Names) : Type 0 where
   pub expr : Gives IsPrintable (whole_expr names) (λ side. is_printable_what side.what ≡ true)
   pub cond : Gives IsPrintable (whole_cond names) (λ found. is_printable_cond found.0 ≡ true)
 
+-- so they do over any names
 abbrev pub ExpressionsArePrintable : Type 0
 ExpressionsArePrintable = (names : Names) → SidesPrint names

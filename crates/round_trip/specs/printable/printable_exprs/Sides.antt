@@ -4,6 +4,7 @@ use Rattle.cobol_grammar.specs.declared.expr_forms.side.ParsedExpr.{ParsedExpr}
 use Rattle.cobol_grammar.specs.declared.expr_forms.side.ParsedExpr.TheVariants as whats
 use Rattle.round_trip.specs.printable.Part.{is_printable_place, is_printable_operand, is_printable_expr}
 
+-- what was read can be printed
 abbrev pub is_printable_what : ParsedExpr → Bool
 is_printable_what (whats.Ref place) = is_printable_place place
 is_printable_what (whats.Literal operand) = is_printable_operand operand

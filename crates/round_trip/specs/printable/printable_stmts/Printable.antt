@@ -9,6 +9,7 @@ use Rattle.round_trip.specs.printable.printable_tokens.Printable.{IsPrintable}
 use Rattle.round_trip.specs.printable.Part.{is_printable_place, is_printable_operand, is_printable_expr}
 use Rattle.round_trip.specs.printable.Beside.{is_printable_cond}
 
+-- each part gives what can be printed
 pub record PartsPrint {Side Known : Type 0} (parts : Parts Side Known) : Type 0 where
   pub operand : Gives IsPrintable parts.operand
       (λ side. is_printable_operand (parts.operand_of side) ≡ true)

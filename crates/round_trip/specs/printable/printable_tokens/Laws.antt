@@ -7,6 +7,7 @@ use Rattle.cobol_lex.specs.declared.token.Token.{Token}
 use Rattle.grammar_laws.specs.form_results.Giving.{AreOf}
 use Rattle.round_trip.specs.printable.printable_tokens.Printable.{IsPrintable}
 
+-- the tokens of a source in the format can be printed
 abbrev pub TokensArePrintable : Type 0
 TokensArePrintable =
     (bytes : List ℕ) (text : List Placed) (tokens : List Token) →

@@ -12,11 +12,12 @@ use Rattle.cobol_lex.specs.declared.token.TokenKind.TheVariants as kinds
 abbrev pub IsPrintableWord : List ℕ → Type 0
 IsPrintableWord word = IsCapitalWord word × (list_all is_digit word ≡ false)
 
--- 1 to 160 bytes, no control characters
+-- a text can be printed: it has 1 to 160 bytes, and no control characters
 abbrev pub is_printable_text : List ℕ → Bool
 is_printable_text text =
     nat_le 1 (length text) && nat_le (length text) 160 && list_all (nat_le space) text
 
+-- a token that can be printed
 abbrev pub IsPrintable : TokenKind → Type 0
 IsPrintable (kinds.Word word) = IsPrintableWord word
 IsPrintable (kinds.Digits digits) = AreDigits digits

@@ -11,9 +11,10 @@ use Rattle.grammar_laws.specs.form_results.Giving.{Gives}
 use Rattle.round_trip.specs.printable.printable_tokens.Printable.{IsPrintable}
 use Rattle.round_trip.specs.procedures.readable_exprs.Readable.{IsReadablePlace, IsReadableOperand, IsReadableExpr, IsReadableCond}
 
+-- each form gives what can be read again
 pub record SidesAreReadable (names : Names) (program : Program) : Type 0 where
   pub reference : Gives IsPrintable (data_reference names) (IsReadablePlace names program)
-  -- behind its first word
+  -- after its first word
   pub reference_behind : (first : List ℕ) (position : Position) →
       Gives IsPrintable (data_reference_behind names first position)
       (λ side. is_data_word first ≡ true → IsReadablePlace names program side)
@@ -23,6 +24,7 @@ pub record SidesAreReadable (names : Names) (program : Program) : Type 0 where
   pub expr : Gives IsPrintable (whole_expr names) (IsReadableExpr names program)
   pub cond : Gives IsPrintable (whole_cond names) (λ found. IsReadableCond names program found.0)
 
+-- so they do in each program
 abbrev pub ExpressionsAreReadable : Type 0
 ExpressionsAreReadable = (names : Names) (program : Program) →
     names ≡ names_of program.files program.entries → SidesAreReadable names program

@@ -1,4 +1,4 @@
--- Places, operands and expressions as they are read, where what stands in the tree for them can be
+-- Places, operands and expressions as they are read, where what is in the tree for them can be
 -- printed so that it is read back, and the same is known of it.
 use Rattle.std.specs.Prelude.{ℕ, ◌≡◌, ◌≤◌, true, None}
 use Rattle.cob_tree.specs.declared.cond.Cond.{Cond}
@@ -16,28 +16,44 @@ use Rattle.round_trip.specs.spelling.expr_spelling.Spelled.{IsOperandSide, IsExp
 use Rattle.round_trip.specs.spelling.cond_spelling.Printable.{IsPrintableCond}
 
 module _ (names : Names) (program : Program) where
-  -- which has room behind so many terms
+  -- which has room after so many terms
   pub record IsReadableOperand (most : ℕ) (side : Side) : Type 0 where
+    -- it can be printed so
     pub fit : IsPrintableOperand names program (operand_of side.what)
+    -- its window has room
     pub room : (before : ℕ) → before ≤ most → OperandHasRoom true 501 before (operand_of side.what)
+    -- the same is known of it
     pub kept : IsOperandSide names program (operand_of side.what) side
 
   -- a reference alone isn't counted itself
   pub record IsReadablePlace (side : Side) : Type 0 where
+    -- it can be printed so
     pub fit : IsPrintablePlace names program (place_of side.what)
+    -- its window has room
     pub room : PlaceHasRoom true 501 0 (place_of side.what)
+    -- the same is known of it
     pub kept : IsOperandSide names program (operands.Place (place_of side.what)) side
+    -- it is a place as an operand too
     pub same : operand_of side.what ≡ operands.Place (place_of side.what)
+    -- as an operand it can be read again
     pub operand : IsReadableOperand 0 side
-    -- a number has no window, so it has room behind any terms
+    -- a number has no window, so it has room after any terms
     pub number : (most : ℕ) → number_fault side ≡ None → IsReadableOperand most side
+    -- and where it is used as a whole number
     pub whole : (most : ℕ) → whole_fault side ≡ None → IsReadableOperand most side
 
+  -- an expression, within the limit of terms
   pub record IsReadableExpr (side : Side) : Type 0 where
+    -- it can be printed so
     pub fit : IsPrintableExpr names program (expr_of side.what)
+    -- it has no more terms than their limit
     pub few : expr_terms (expr_of side.what) ≤ 500
+    -- the same is known of it
     pub kept : IsExprSide names program (expr_of side.what) side
 
+  -- a condition, within the limit of terms
   pub record IsReadableCond (cond : Cond) : Type 0 where
+    -- it can be printed so
     pub fit : IsPrintableCond names program cond
+    -- it has no more terms than their limit
     pub few : cond_terms cond ≤ 500

@@ -23,16 +23,17 @@ module _ {Side Known : Type 0} (parts : Parts Side Known) (kept : Kept Side) (pr
         SpellsHeader parts kept program section taken
         × SpellsHeader parts kept program name (taken + 3)
 
-    -- behind so many tokens
+    -- after so many tokens
     abbrev pub AreHeaders : (taken : ℕ) → List Paragraph → Type 0
     AreHeaders taken [] = Unit {0}
     AreHeaders taken (paragraph ∷ paragraphs) =
         IsHeaded taken paragraph.name paragraph.section
         × AreHeaders (taken + length (paragraph_tokens parts kept program paragraph)) paragraphs
 
-    -- ---- what stands behind them
+    -- ---- what follows them
 
-    -- behind a bare section only a section may follow
+    -- the sentences of a paragraph are spelled, and it may come next: after a bare section only a
+    -- section may
     abbrev pub SpellsBody : (bare in_section : Bool) → (name section : Option (List ℕ)) →
         List Sentence → Type 0
     SpellsBody bare in_section None None sentences = ⊥
@@ -41,9 +42,11 @@ module _ {Side Known : Type 0} (parts : Parts Side Known) (kept : Kept Side) (pr
     SpellsBody bare in_section name (Some section) sentences =
         SpellsSentences parts kept program (scope_of true) sentences
 
+    -- nothing is printed of the paragraph but the header of its section
     abbrev pub is_bare : Paragraph → Bool
     is_bare paragraph = is_bare_by paragraph.name paragraph.section paragraph.sentences
 
+    -- the paragraphs after the first
     abbrev pub SpellsBehind : (bare in_section : Bool) → List Paragraph → Type 0
     SpellsBehind bare in_section [] = Unit {0}
     SpellsBehind bare in_section (paragraph ∷ paragraphs) =

@@ -1,4 +1,4 @@
--- What may not stand behind a condition: what could go on with it, and a NOT that may.
+-- What may not follow a condition: what could go on with it, and a NOT that may.
 use Rattle.std.specs.Prelude.{◌≡◌, Bool, false, ◌||◌, ◌⊎◌, Option, Some, codes}
 use Rattle.cobol_lex.specs.declared.token.TokenKind.{TokenKind}
 use Rattle.cobol_lex.specs.declared.token.TokenKind.TheVariants as kinds
@@ -6,6 +6,7 @@ use Rattle.parser_combinators.specs.Part.{is_key}
 use Rattle.cobol_grammar.specs.cond_forms.Token.{begins_rel_behind, begins_sign, begins_class, joins}
 use Rattle.round_trip.specs.spelling.expr_spelling.Spelled.{continues_expr}
 
+-- a token with which a test begins
 abbrev pub begins_test : TokenKind → Bool
 begins_test kind =
     begins_rel_behind false kind || (begins_sign kind || begins_class kind)
@@ -20,10 +21,11 @@ continues_part kind =
 unfoldable pub continues_cond : TokenKind → Bool
 continues_cond kind = continues_part kind || joins kind
 
--- a NOT, and what stands behind one that isn't the condition's own
+-- the next token is a NOT
 abbrev pub IsNot : Option TokenKind → Type 0
 IsNot behind = behind ≡ Some (kinds.Word (codes "NOT"))
 
+-- ON or AT, with which the phrase of an arm begins
 abbrev pub BeginsPhrase : Option TokenKind → Type 0
 BeginsPhrase behind =
     (behind ≡ Some (kinds.Word (codes "ON"))) ⊎ (behind ≡ Some (kinds.Word (codes "AT")))

@@ -13,15 +13,15 @@ use Rattle.round_trip.specs.spelling.cond_spelling.Behind.{continues_cond, IsNot
 use Rattle.round_trip.specs.spelling.cond_spelling.Printable.{IsPrintableCond}
 
 -- a condition is spelled by the tokens that it is printed with,
--- where nothing behind it continues it
+-- where nothing after it continues it
 abbrev pub ConditionsAreSpelled : Type 0
 ConditionsAreSpelled = (names : Names) (program : Program) (cond : Cond) (taken : ℕ) →
     IsPrintableCond names program cond → cond_terms cond ≤ 500 →
     Spelled (whole_cond names) taken (cond_tokens program cond false) (Ends continues_cond)
     (λ found. found ≡ (cond, false))
 
--- A NOT behind a condition is read with it where the condition ends in the name of a level 88, since
--- a test could stand there, and isn't where it ends otherwise.
+-- A NOT after a condition is read with it where the condition ends in the name of a level 88, since
+-- a test could be there, and isn't where it ends otherwise.
 abbrev pub ConditionsBeforeNot : Type 0
 ConditionsBeforeNot = (names : Names) (program : Program) (cond : Cond) →
     IsPrintableCond names program cond → cond_terms cond ≤ 500 →

@@ -25,19 +25,21 @@ kinds_suit (kinds.Number whole) kinds.Figure left right = false
 kinds_suit kinds.Figure (kinds.Number whole) left right = false
 kinds_suit _ _ left right = true
 
--- no two literals
+-- two sides may be compared, by what they are made of: no two literals may
 abbrev pub makes_suit : (one other : ExprContent) → (left right : Judged) → Bool
 makes_suit makes.Literal makes.Literal left right = false
 makes_suit _ _ left right = kinds_suit (compared_as left.kind) (compared_as right.kind) left right
 
+-- the two may be compared
 abbrev pub are_comparable : (left right : Judged) → Bool
 are_comparable left right = makes_suit left.make right.make left right
 
--- the name of a level 88 is no value
+-- the side is a value, as the name of a level 88 isn't
 abbrev pub is_value : Judged → Bool
 is_value judged = judged.fit && not (is_condition judged.kind)
 
 module _ (names : Names) (program : Program) where
+  -- one level of a condition
   abbrev pub cond_step : Cond-F Bool → Bool
   cond_step (Cond-F.Relation left rel right) =
       (is_value (judged_expr names program left) && is_value (judged_expr names program right))
@@ -52,8 +54,10 @@ module _ (names : Names) (program : Program) where
   cond_step (Cond-F.And left right) = left && right
   cond_step (Cond-F.Or left right) = left && right
 
+  -- a condition can be printed so
   abbrev pub cond_fit : Cond → Bool
   cond_fit = fold-Cond Bool cond_step
 
+  -- the condition can be printed so
   abbrev pub IsPrintableCond : Cond → Type 0
   IsPrintableCond cond = cond_fit cond ≡ true

@@ -1,4 +1,4 @@
--- Drafts that say what entries are, wherever their tokens stand.
+-- Drafts that say what entries are, wherever their tokens are.
 use Rattle.std.specs.Prelude.{ℕ, ◌≡◌, true, false, List, [], ◌∷◌, ◌++◌, map, Option, Some, None, decimal, slice_get}
 use Rattle.cob_tree.specs.declared.entry.Entry.{Entry}
 use Rattle.cob_tree.specs.declared.entry.Span.{Span}
@@ -25,23 +25,27 @@ use Rattle.unparser.specs.Place.{item_name}
 use Rattle.cobol_print.specs.units.Entry.{level_text}
 use Rattle.round_trip.specs.spelling.data_spelling.Sections.{Fd, records}
 
+-- the REDEFINES clause, if there is one
 abbrev pub IsRedefines : Program → Option ℕ → List Clause → Type 0
 IsRedefines program None list = list ≡ []
 IsRedefines program (Some number) list =
     (at : Position) × (name_at : Position)
     × (list ≡ clauses.Redefines at (item_name program number) name_at ∷ [])
 
+-- the PICTURE clause, if there is one
 abbrev pub IsPicture : Option Picture → List Clause → Type 0
 IsPicture None list = list ≡ []
 IsPicture (Some picture) list =
     (at : Position) × (text_at : Position)
     × (list ≡ clauses.Picture at (picture_text picture) text_at ∷ [])
 
+-- the SIGN clause; a sign within the last digit has none
 abbrev pub IsSign : Sign → List Clause → Type 0
 IsSign Within list = list ≡ []
 IsSign SeparateLeading list = (at : Position) × (list ≡ clauses.Sign at true true ∷ [])
 IsSign SeparateTrailing list = (at : Position) × (list ≡ clauses.Sign at false true ∷ [])
 
+-- the OCCURS clause, if there is one
 abbrev pub IsOccurs : Option ℕ → List Clause → Type 0
 IsOccurs None list = list ≡ []
 IsOccurs (Some count) list =
@@ -54,37 +58,40 @@ IsSpans spans list =
     (at : Position) × (drafts : List SpanDraft)
     × (map span_of drafts ≡ spans) × (list ≡ clauses.Value at drafts ∷ [])
 
--- a value alone
+-- a value alone, without THRU
 abbrev pub alone : Operand → Span
 alone value = record { from = value; to = None }
 
+-- the VALUE clause of an item, if there is one
 abbrev pub IsValue : Option Operand → List Clause → Type 0
 IsValue None list = list ≡ []
 IsValue (Some value) list = IsSpans (alone value ∷ []) list
 
+-- the VALUE clause of a level 88, if there is one
 abbrev pub IsRanges : List Span → List Clause → Type 0
 IsRanges [] list = list ≡ []
 IsRanges (span ∷ spans) list = IsSpans (span ∷ spans) list
 
--- some of these behind some of those
+-- some of these after some of those
 abbrev pub Behind : (Front Back : List Clause → Type 0) → List Clause → Type 0
 Behind Front Back list =
     (front : List Clause) × (back : List Clause) × Front front × Back back
     × (list ≡ front ++ back)
 
--- in the order in which they are printed
+-- the clauses say what the entry is, in the order in which they are printed
 abbrev pub AreClauses : Program → Entry → List Clause → Type 0
 AreClauses program entry =
     Behind (IsRedefines program entry.redefines) (Behind (IsPicture entry.picture)
     (Behind (IsSign entry.sign) (Behind (IsOccurs entry.occurs)
     (Behind (IsValue entry.value) (IsRanges entry.ranges)))))
 
+-- the draft says what the entry is
 pub record IsDraft (program : Program) (entry : Entry) (draft : EntryDraft) : Type 0 where
   pub level : draft.level ≡ level_text entry.level
   pub name : draft.name ≡ entry.name
   pub clauses : AreClauses program entry draft.clauses
 
--- one for each entry
+-- there is a draft for each entry, which says what it is
 abbrev pub AreDrafts : Program → List Entry → List EntryDraft → Type 0
 AreDrafts program [] [] = Unit {0}
 AreDrafts program (entry ∷ entries) (draft ∷ drafts) =
@@ -93,21 +100,25 @@ AreDrafts program _ _ = ⊥
 
 -- ---- files
 
+-- the FILE STATUS clause, if there is a status item
 abbrev pub IsStatus : Option Place → List StatusDraft → Type 0
 IsStatus None list = list ≡ []
 IsStatus (Some place) list =
     (at : Position) × (list ≡ record { at = at; place = place } ∷ [])
 
+-- the draft says what the file is
 pub record IsSelect (file : FileEntry) (draft : SelectDraft) : Type 0 where
   pub name : draft.name ≡ file.name
   pub assign : draft.assign ≡ file.assign
   pub status : IsStatus file.status draft.statuses
 
+-- one for each file
 abbrev pub AreSelects : List FileEntry → List SelectDraft → Type 0
 AreSelects [] [] = Unit {0}
 AreSelects (file ∷ files) (draft ∷ drafts) = IsSelect file draft × AreSelects files drafts
 AreSelects _ _ = ⊥
 
+-- the name of a file
 abbrev pub file_title : Option FileEntry → List ℕ
 file_title None = []
 file_title (Some file) = file.name
@@ -117,6 +128,7 @@ pub record IsFd (program : Program) (fd : Fd) (draft : FdDraft) : Type 0 where
   pub name : draft.name ≡ file_title (slice_get program.files fd.number)
   pub entries : AreDrafts program (records fd) draft.entries
 
+-- one for each FD
 abbrev pub AreFds : Program → List Fd → List FdDraft → Type 0
 AreFds program [] [] = Unit {0}
 AreFds program (fd ∷ fds) (draft ∷ drafts) = IsFd program fd draft × AreFds program fds drafts
@@ -124,11 +136,13 @@ AreFds program _ _ = ⊥
 
 -- ---- all of them
 
+-- the draft says what the entries are, by their sections
 pub record AreData (program : Program) (described : List Fd) (stored : List Entry)
     (draft : DataDraft) : Type 0 where
   pub fds : AreFds program described draft.fds
   pub storage : AreDrafts program stored draft.storage
 
+-- the draft says what the program is before its PROCEDURE DIVISION
 pub record AreDivisions (program : Program) (described : List Fd) (stored : List Entry)
     (draft : Divisions) : Type 0 where
   pub name : draft.name ≡ program.name

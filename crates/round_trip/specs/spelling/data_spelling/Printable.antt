@@ -20,14 +20,16 @@ abbrev pub IsLiteral : Operand → Type 0
 IsLiteral (operands.Place place) = ⊥
 IsLiteral _ = Unit {0}
 
--- what may be absent
+-- what is absent, or is so
 abbrev pub IfAny : {A : Type 0} → (A → Type 0) → Option A → Type 0
 IfAny Is None = Unit {0}
 IfAny Is (Some a) = Is a
 
+-- a value, or each end of a range of values, is no place
 abbrev pub IsLiteralSpan : Span → Type 0
 IsLiteralSpan span = IsLiteral span.from × IfAny IsLiteral span.to
 
+-- none of these values is a place
 abbrev pub AreLiteralSpans : List Span → Type 0
 AreLiteralSpans [] = Unit {0}
 AreLiteralSpans (span ∷ spans) = IsLiteralSpan span × AreLiteralSpans spans
@@ -39,16 +41,20 @@ IsDataWord word = is_data_word word ≡ true
 -- its name, if it has one, may be a name, as may that of what it redefines; its values are literals
 pub record IsPrintableEntry (program : Program) (entry : Entry) : Type 0 where
   pub named : IfAny IsDataWord entry.name
+  -- what it redefines may be named, if it redefines something
   pub redefined : IfAny (λ number. IsDataWord (item_name program number)) entry.redefines
+  -- its value is a literal, if it has one
   pub valued : IfAny IsLiteral entry.value
+  -- the values of a level 88 are literals
   pub ranged : AreLiteralSpans entry.ranges
 
+-- these entries
 abbrev pub ArePrintableEntries : Program → List Entry → Type 0
 ArePrintableEntries program [] = Unit {0}
 ArePrintableEntries program (entry ∷ entries) =
     IsPrintableEntry program entry × ArePrintableEntries program entries
 
--- a period stands behind
+-- a period follows
 abbrev pub IsPeriod : Option TokenKind → Type 0
 IsPeriod behind = behind ≡ Some kinds.Period
 
@@ -59,11 +65,14 @@ SpellsStatus status program (Some place) =
     (taken : ℕ) →
     Spelled status taken (place_tokens program place) IsPeriod (λ found. found ≡ place)
 
+-- a file: its name may be a name, and its status item is spelled
 pub record IsPrintableFile (status : Form Place) (program : Program) (file : FileEntry)
     : Type 0 where
   pub named : IsDataWord file.name
+  -- its status item is spelled
   pub stated : SpellsStatus status program file.status
 
+-- these files
 abbrev pub ArePrintableFiles : Form Place → Program → List FileEntry → Type 0
 ArePrintableFiles status program [] = Unit {0}
 ArePrintableFiles status program (file ∷ files) =
@@ -72,15 +81,18 @@ ArePrintableFiles status program (file ∷ files) =
 -- the FD of a file of the program
 pub record IsPrintableFd (program : Program) (fd : Fd) : Type 0 where
   pub file : FileEntry
+  -- the file is one of the program
   pub there : slice_get program.files fd.number ≡ Some file
   pub named : IsDataWord file.name
+  -- its records can be printed
   pub written : ArePrintableEntries program (records fd)
 
+-- these FDs
 abbrev pub ArePrintableFds : Program → List Fd → Type 0
 ArePrintableFds program [] = Unit {0}
 ArePrintableFds program (fd ∷ fds) = IsPrintableFd program fd × ArePrintableFds program fds
 
--- all that stands before the PROCEDURE DIVISION, whose entries stand in these sections
+-- all that comes before the PROCEDURE DIVISION, whose entries are in these sections
 pub record IsPrintable (status : Form Place) (program : Program) (described : List Fd)
     (stored : List Entry) : Type 0 where
   pub titled : IsDataWord program.name
@@ -88,6 +100,6 @@ pub record IsPrintable (status : Form Place) (program : Program) (described : Li
   pub fds : ArePrintableFds program described
   pub storage : ArePrintableEntries program stored
 
--- the PROCEDURE DIVISION stands behind
+-- the PROCEDURE DIVISION follows
 abbrev pub BeforeProcedures : Option TokenKind → Type 0
 BeforeProcedures behind = behind ≡ Some (kinds.Word (codes "PROCEDURE"))

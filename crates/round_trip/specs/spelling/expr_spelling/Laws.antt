@@ -16,7 +16,7 @@ use Rattle.round_trip.specs.spelled_forms.Spelling.{Spelled}
 use Rattle.round_trip.specs.spelling.expr_spelling.Printable.{reference, IsPrintableExpr, IsPrintableOperand, IsPrintablePlace}
 use Rattle.round_trip.specs.spelling.expr_spelling.Spelled.{Ends, continues_place, continues_expr, IsOperandSide, IsExprSide, PlaceHasRoom, OperandHasRoom}
 
--- each is spelled by the tokens that it is printed with, where nothing behind them continues it
+-- each is spelled by the tokens that it is printed with, where nothing after them continues it
 pub record ExpressionsAreSpelled : Type 0 where
   pub reference : (names : Names) (program : Program) (place : Place) (taken : ℕ) →
       IsPrintablePlace names program place → PlaceHasRoom true 501 0 place →

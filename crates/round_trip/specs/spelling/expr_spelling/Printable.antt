@@ -1,5 +1,5 @@
--- What is known of places, operands and expressions by the names of their program, as it is known of
--- them where they are read, and whether they can be printed so that they are read back.
+-- What is known of places, operands and expressions by the names of their program, as it is known
+-- of them where they are read, and whether they can be printed so that they are read back.
 use Rattle.std.specs.Prelude.{ℕ, ◌≡◌, ◌==◌, not, Bool, true, false, ◌&&◌, List, [], ◌∷◌, length, Option, Some, None}
 use Rattle.std.specs.Option.{is_some}
 use Rattle.cob_tree.specs.declared.place.Expr.{Expr, fold-Expr}
@@ -29,33 +29,39 @@ pub record Judged : Type 0 where
   -- it can be printed so that it is read back
   pub fit : Bool
   pub kind : ValueKind
+  -- what it is made of
   pub make : ExprContent
   -- it is an item without subscripts and window
   pub bare : Bool
 
 -- ---- kinds
 
+-- a number
 abbrev pub is_number : ValueKind → Bool
 is_number (kinds.Number whole) = true
 is_number _ = false
 
--- a number without decimals
+-- the kind is a number without decimals
 abbrev pub is_counting : ValueKind → Bool
 is_counting (kinds.Number whole) = whole
 is_counting _ = false
 
+-- the operator gives a whole number of whole numbers
 abbrev pub is_exact : Op → Bool
 is_exact ops.Div = false
 is_exact _ = true
 
+-- what is known of a literal of this kind
 abbrev pub literal : ValueKind → Judged
 literal kind = record { fit = true; kind = kind; make = makes.Literal; bare = false }
 
+-- what is known of an expression that is made of others
 abbrev pub joined : (fit whole : Bool) → Judged
 joined fit whole = record { fit = fit; kind = kinds.Number whole; make = makes.Joined; bare = false }
 
 -- ---- names
 
+-- each of these words may be a name
 abbrev pub are_data_words : List (List ℕ) → Bool
 are_data_words [] = true
 are_data_words (word ∷ words) = is_data_word word && are_data_words words
@@ -66,36 +72,42 @@ suits item subs windowed (found.Item number kind dims) =
     number == item && (dims == subs && not (is_condition (item_kind kind) && windowed))
 suits item subs windowed _ = false
 
+-- each of these parts can be printed so
 abbrev pub are_fit : List Judged → Bool
 are_fit [] = true
 are_fit (part ∷ parts) = part.fit && are_fit parts
 
+-- the part, if there is one, can be printed so
 abbrev pub if_fit : Option Judged → Bool
 if_fit None = true
 if_fit (Some part) = part.fit
 
+-- the part, if there is one, can be printed so and is a number without decimals
 abbrev pub if_counting : Option Judged → Bool
 if_counting None = true
 if_counting (Some part) = part.fit && is_counting part.kind
 
+-- the kind of an item, or of its window
 abbrev pub kind_seen : Option Judged → ValueKind → ValueKind
 kind_seen None kind = kind
 kind_seen (Some window) kind = windowed kind
 
+-- there is no subscript and no window
 abbrev pub is_bare : (subs : ℕ) → (windowed : Bool) → Bool
 is_bare subs windowed = subs == 0 && not windowed
 
--- a subscript is a number, or an item's value, and a number with it
+-- the base of a subscript suits it: it is a number alone, or an item's value without decimals
 abbrev pub suits_base : Option Judged → (negative : Bool) → Bool
 suits_base None negative = not negative
 suits_base (Some base) negative = base.fit && (base.bare && is_counting base.kind)
 
 -- ---- each part, by those in it
 
+-- one level of a place or expression, in which each part is what is known of it
 abbrev pub Layer : (Type 0 → Type 0 → Type 0 → Type 0 → Type 0 → Type 0) → Type 0
 Layer F = F Judged Judged Judged Judged Judged
 
--- under an operator or a sign stand numbers
+-- what is known of one level of an expression; under an operator or a sign there are numbers
 abbrev pub expr_step : Layer Expr-F → Judged
 expr_step (Expr-F.Leaf operand) = operand
 expr_step (Expr-F.Minus inner) = joined (inner.fit && is_number inner.kind) (is_whole inner.kind)
@@ -103,12 +115,14 @@ expr_step (Expr-F.Both op left right) =
     joined ((left.fit && is_number left.kind) && (right.fit && is_number right.kind))
     (is_exact op && (is_whole left.kind && is_whole right.kind))
 
+-- what is known of one level of an operand
 abbrev pub operand_step : Layer Operand-F → Judged
 operand_step (Operand-F.Place place) = place
 operand_step (Operand-F.Number number) = literal (kinds.Number (number.scale == 0))
 operand_step (Operand-F.Text text) = literal kinds.Text
 operand_step (Operand-F.Figure figure) = literal (figure_kind figure)
 
+-- what is known of one level of a subscript
 abbrev pub sub_step : Layer Sub-F → Judged
 sub_step sub = record {
   fit = sub.plus.scale == 0 && suits_base sub.base sub.plus.negative;
@@ -131,7 +145,8 @@ module _ (names : Names) (program : Program) where
   abbrev pub reference : (item : ℕ) → (of : List (List ℕ)) → Referent
   reference item of = look names (item_name program item) of
 
-  -- the name with what qualifies it stands for the item, and suits what stands behind it
+  -- what is known of one level of a place: the name with what qualifies it stands for the item, and
+  -- suits what follows it
   abbrev pub place_step : Layer Place-F → Judged
   place_step place = record {
     fit = (is_data_word (item_name program place.item) && are_data_words place.of)
@@ -143,26 +158,31 @@ module _ (names : Names) (program : Program) where
     bare = is_bare (length place.subs) (is_some place.window);
   }
 
+  -- what is known of an expression
   abbrev pub judged_expr : Expr → Judged
   judged_expr =
       fold-Expr Judged Judged Judged Judged Judged expr_step operand_step place_step sub_step
       window_step
 
+  -- what is known of an operand
   abbrev pub judged_operand : Operand → Judged
   judged_operand =
       fold-Operand Judged Judged Judged Judged Judged expr_step operand_step place_step sub_step
       window_step
 
+  -- what is known of a place
   abbrev pub judged_place : Place → Judged
   judged_place =
       fold-Place Judged Judged Judged Judged Judged expr_step operand_step place_step sub_step
       window_step
 
+  -- what is known of a subscript
   abbrev pub judged_sub : Sub → Judged
   judged_sub =
       fold-Sub Judged Judged Judged Judged Judged expr_step operand_step place_step sub_step
       window_step
 
+  -- what is known of a window
   abbrev pub judged_window : Window → Judged
   judged_window =
       fold-Window Judged Judged Judged Judged Judged expr_step operand_step place_step sub_step
@@ -170,11 +190,14 @@ module _ (names : Names) (program : Program) where
 
   -- ---- which can be printed
 
+  -- the expression can be printed so
   abbrev pub IsPrintableExpr : Expr → Type 0
   IsPrintableExpr expr = (judged_expr expr).fit ≡ true
 
+  -- the operand can be printed so
   abbrev pub IsPrintableOperand : Operand → Type 0
   IsPrintableOperand operand = (judged_operand operand).fit ≡ true
 
+  -- the place can be printed so
   abbrev pub IsPrintablePlace : Place → Type 0
   IsPrintablePlace place = (judged_place place).fit ≡ true

@@ -1,4 +1,4 @@
--- What may stand behind places and expressions, how many terms they may have, and what is read of
+-- What may follow places and expressions, how many terms they may have, and what is read of
 -- them.
 use Rattle.std.specs.Prelude.{ℕ, ◌≡◌, ◌+◌, ◌<◌, ◌≤◌, Bool, false, ◌||◌, List, Option, Some, None}
 use Rattle.cob_base.specs.Bytes.{left_parenthesis}
@@ -22,8 +22,9 @@ use Rattle.cobol_grammar.specs.expr_forms.Token.{is_of, begins_turn}
 use Rattle.cobol_grammar.specs.expr_forms.Window.{second_count}
 use Rattle.round_trip.specs.spelling.expr_spelling.Printable.{Judged, judged_expr, judged_operand}
 
--- ---- what stands behind
+-- ---- what follows
 
+-- the next token doesn't begin such a thing, or there is none
 abbrev pub Ends : (TokenKind → Bool) → Option TokenKind → Type 0
 Ends begin behind = begins_by begin behind ≡ false
 
@@ -37,46 +38,63 @@ continues_expr kind = continues_place kind || begins_turn kind
 
 -- ---- what is read
 
+-- what is read of an operand
 abbrev pub what_of : Operand → ParsedExpr
 what_of (operands.Place place) = whats.Ref place
 what_of operand = whats.Literal operand
 
 -- what is known of a side where it is read is what the names tell
 pub record IsKnownAs (judged : Judged) (side : Side) : Type 0 where
+  -- its kind
   pub kind : side.kind ≡ judged.kind
+  -- what it is made of
   pub make : side.make ≡ judged.make
 
 module _ (names : Names) (program : Program) where
+  -- the side is this operand, as the names tell
   pub record IsOperandSide (operand : Operand) (side : Side) : Type 0 where
+    -- what was read is the operand
     pub what : side.what ≡ what_of operand
+    -- what is known of it is what the names tell
     pub known : IsKnownAs (judged_operand names program operand) side
 
+  -- the side is this expression, as the names tell
   pub record IsExprSide (expr : Expr) (side : Side) : Type 0 where
+    -- what was read is the expression
     pub told : expr_of side.what ≡ expr
+    -- what is known of it is what the names tell
     pub known : IsKnownAs (judged_expr names program expr) side
 
 -- ---- how many terms
 
+-- the terms of a window's length, if it is given
 abbrev pub size_terms : Option Expr → ℕ
 size_terms None = 0
 size_terms (Some size) = expr_terms size
 
--- Behind so many terms, and within fewer levels of parentheses than these, a window has room.
+-- After so many terms, and within fewer levels of parentheses than these, a window has room.
 -- Outside of any expression its second one is counted anew.
 pub record HasRoom (alone : Bool) (levels count : ℕ) (from : Expr) (size : Option Expr) : Type 0
   where
+    -- the start is within the levels of parentheses
     pub first : expr_terms from < levels
+    -- so is the length
     pub second : size_terms size < levels
+    -- the terms up to the start are within their limit
     pub some : count + expr_terms from ≤ 500
+    -- so are those up to the length
     pub all : second_count alone (count + expr_terms from) + size_terms size ≤ 500
 
+-- a window of a start and a length
 abbrev pub made_window : Expr → Option Expr → Window
 made_window from size = roll-Window (record { from = from; «length» = size })
 
+-- a place of an item, with its subscripts and window
 abbrev pub made_place : ℕ → List (List ℕ) → List Sub → Option Window → Place
 made_place item of subs window =
     roll-Place (record { item = item; of = of; subs = subs; window = window })
 
+-- the window, if there is one, has room
 abbrev pub WindowHasRoom : (alone : Bool) → (levels count : ℕ) → Option Window → Type 0
 WindowHasRoom alone levels count window =
     (from : Expr) (size : Option Expr) → window ≡ Some (made_window from size) →
@@ -88,6 +106,7 @@ PlaceHasRoom alone levels count place =
     (item : ℕ) (of : List (List ℕ)) (subs : List Sub) (window : Option Window) →
     place ≡ made_place item of subs window → WindowHasRoom alone levels count window
 
+-- an operand that is a place has room with its window
 abbrev pub OperandHasRoom : (alone : Bool) → (levels count : ℕ) → Operand → Type 0
 OperandHasRoom alone levels count operand =
     (place : Place) → operand ≡ operands.Place place → PlaceHasRoom alone levels count place

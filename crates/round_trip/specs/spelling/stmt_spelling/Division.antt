@@ -25,29 +25,34 @@ abbrev pub is_bare_by : (name section : Option (List ℕ)) → List Sentence →
 is_bare_by None (Some section) [] = true
 is_bare_by _ _ _ = false
 
--- no token stands behind
+-- no token follows
 abbrev pub AtEnd : Option TokenKind → Type 0
 AtEnd behind = behind ≡ None
 
 module _ {Side Known : Type 0} (parts : Parts Side Known) (kept : Kept Side) (program : Program)
   where
-    -- EXIT without a further word is the only statement of its paragraph
+    -- the statements of a sentence are spelled, within the limit of nesting
     abbrev pub SpellsSentence : Scope → Sentence → Type 0
     SpellsSentence scope sentence =
         SpellsList parts kept program (suc max_nesting) scope sentence.stmts
 
+    -- the sentences of a paragraph are spelled; EXIT without a further word is its only statement
     abbrev pub SpellsSentences : Scope → List Sentence → Type 0
     SpellsSentences scope sentences =
         (sentences ≡ sentence_of (stmts.Exit ∷ []) ∷ []) ⊎ Each (SpellsSentence scope) sentences
 
-    -- The name of a paragraph or section, behind so many tokens: it is one, no other has it, and no
+    -- The name of a paragraph or section, after so many tokens: it is one, no other has it, and no
     -- statement begins with it.
     pub record SpellsHeader (name : List ℕ) (taken : ℕ) : Type 0 where
+      -- its token is a name that no earlier one has
       pub spelled : Spelled parts.header_name taken (procedure_token name ∷ []) Any
           (λ found. (found.0 ≡ name) × (parts.duplicate_fault found.0 found.1 ≡ None))
+      -- its token begins a paragraph or section
       pub begins : begins_procedure parts (procedure_token name) ≡ true
+      -- no statement begins with it
       pub no_stmt : begins_stmt (procedure_token name) ≡ false
 
+    -- the tokens that a paragraph is printed with
     abbrev pub paragraph_tokens : Paragraph → Tokens
     paragraph_tokens paragraph = all_tokens (paragraph_units program paragraph)
 
@@ -55,7 +60,7 @@ module _ {Side Known : Type 0} (parts : Parts Side Known) (kept : Kept Side) (pr
     abbrev pub is_bare : Paragraph → Bool
     is_bare paragraph = is_bare_by paragraph.name paragraph.section paragraph.sentences
 
-    -- behind a bare section only a section may follow
+    -- after a bare section only a section may follow
     abbrev pub SpellsHeaded : (bare in_section : Bool) → (taken : ℕ) → (name section : Option
         (List ℕ)) → List Sentence → Type 0
     SpellsHeaded bare in_section taken None None sentences = ⊥
@@ -68,7 +73,7 @@ module _ {Side Known : Type 0} (parts : Parts Side Known) (kept : Kept Side) (pr
         SpellsHeader section taken
         × (SpellsHeader name (taken + 3) × SpellsSentences (scope_of true) sentences)
 
-    -- behind so many tokens
+    -- after so many tokens
     abbrev pub SpellsParagraphs : (bare in_section : Bool) → (taken : ℕ) → List Paragraph → Type 0
     SpellsParagraphs bare in_section taken [] = Unit {0}
     SpellsParagraphs bare in_section taken (paragraph ∷ paragraphs) =

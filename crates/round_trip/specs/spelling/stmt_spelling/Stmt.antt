@@ -33,15 +33,17 @@ use Rattle.cobol_grammar.specs.stmt_forms.Part.{Parts}
 use Rattle.round_trip.specs.spelled_forms.Spelling.{first_of, Spelled}
 use Rattle.round_trip.specs.spelling.stmt_spelling.Part.{Kept, BehindOperand, SpellsOperand, SpellsPlace, Without, SpellsValue, SpellsNumber, SpellsNumberPlace, MovesTo, SpellsExpr, WithoutExpr, SpellsCond, SpellsFile, SpellsRecord, SpellsEntry, SpellsRange}
 
+-- each of these has the property
 abbrev pub Each : {A : Type 0} → (A → Type 0) → List A → Type 0
 Each P [] = Unit {0}
 Each P (x ∷ xs) = P x × Each P xs
 
+-- what is there has the property
 abbrev pub IfAny : {A : Type 0} → (A → Type 0) → Option A → Type 0
 IfAny P None = Unit {0}
 IfAny P (Some x) = P x
 
--- each of one or more
+-- there is one at least, and it holds of each
 abbrev pub Some_of : {A : Type 0} → (A → Type 0) → List A → Type 0
 Some_of P list = (is_filled list ≡ true) × Each P list
 
@@ -49,26 +51,32 @@ module _ {Side Known : Type 0} (parts : Parts Side Known) (kept : Kept Side) (pr
   where
     -- ---- heads
 
+    -- a place that takes this operand
     abbrev pub Receives : Operand → Place → Type 0
     Receives from place =
         SpellsPlace parts kept program place
         × (Without parts kept program parts.value_fault (operands.Place place)
         × MovesTo parts kept program from (operands.Place place))
 
+    -- a target of which this fault isn't noted
     abbrev pub TakesResult : (Side → Option Note) → Target → Type 0
     TakesResult fault target =
         SpellsPlace parts kept program target.place
         × Without parts kept program fault (operands.Place target.place)
 
+    -- targets that are read and changed, one at least
     abbrev pub Targets : List Target → Type 0
     Targets into = Some_of (TakesResult parts.number_fault) into
 
+    -- targets that are only set, one at least
     abbrev pub Results : List Target → Type 0
     Results into = Some_of (TakesResult parts.result_fault) into
 
+    -- an operand of arithmetic
     abbrev pub Number : Operand → Type 0
     Number operand = SpellsNumber parts kept program operand
 
+    -- arithmetic with its targets
     abbrev pub SpellsCalc : Calc → List Target → Type 0
     SpellsCalc (calcs.Add operands) into = Some_of Number operands × Targets into
     SpellsCalc (calcs.AddGiving operands) into = Some_of Number operands × Results into
@@ -84,6 +92,7 @@ module _ {Side Known : Type 0} (parts : Parts Side Known) (kept : Kept Side) (pr
         × WithoutExpr parts kept program parts.number_fault expr)
         × Results into
 
+    -- an operand that counts by a whole number
     abbrev pub Whole : Operand → Type 0
     Whole operand =
         SpellsOperand parts kept program operand
@@ -98,23 +107,29 @@ module _ {Side Known : Type 0} (parts : Parts Side Known) (kept : Kept Side) (pr
         SpellsNumberPlace parts kept program item
         × (Number from × (Number by × SpellsCond parts kept program cond))
 
-    -- what counts an inline PERFORM is told from the name of a paragraph by its second token
+    -- an item that counts an inline PERFORM; it is told from the name of a paragraph by its second
+    -- token
     pub record CountsByItem (count : Operand) : Type 0 where
       pub first : List ℕ
       pub others : List TokenKind
       pub tokens : operand_tokens program count ≡ kinds.Word first ∷ others
       pub is_name : parts.is_name (kinds.Word first) ≡ true
+      -- what follows its first word makes it an item
       pub goes_on : begins_by continues_item
           (first_of others (Some (kinds.Word (codes "TIMES")))) ≡ true
+      -- the rest of it is spelled after its first word
       pub spelled : (taken : ℕ) (position : Position) →
           Spelled (parts.reference_behind first position) taken others
           (BehindOperand parts) (kept.operand count)
 
+    -- digits that count an inline PERFORM
     pub record CountsByDigits (count : Operand) : Type 0 where
       pub digits : List ℕ
       pub tokens : operand_tokens program count ≡ kinds.Digits digits ∷ []
+      -- the digits are what counts
       pub is : (position : Position) → kept.operand count (parts.digits_side digits position)
 
+    -- what counts an inline PERFORM and begins neither with a name nor with digits
     pub record CountsOtherwise (count : Operand) : Type 0 where
       pub first : TokenKind
       pub others : List TokenKind
@@ -123,10 +138,12 @@ module _ {Side Known : Type 0} (parts : Parts Side Known) (kept : Kept Side) (pr
       pub no_digits : is_digits first ≡ false
       pub no_procedure : parts.is_procedure_word first ≡ false
 
+    -- what counts an inline PERFORM, told from the name of a paragraph
     abbrev pub CountsTurns : Operand → Type 0
     CountsTurns count =
         CountsByItem count ⊎ (CountsByDigits count ⊎ CountsOtherwise count)
 
+    -- how often an inline PERFORM is done
     abbrev pub SpellsTurns : Control → Type 0
     SpellsTurns controls.Once = ⊥
     SpellsTurns (controls.Times count) = Whole count × CountsTurns count
@@ -134,6 +151,7 @@ module _ {Side Known : Type 0} (parts : Parts Side Known) (kept : Kept Side) (pr
 
     -- ---- what EVALUATE compares
 
+    -- the subject of EVALUATE
     abbrev pub SpellsSubject : Subject → Type 0
     SpellsSubject subjects.True = Unit {0}
     SpellsSubject subjects.False = Unit {0}
@@ -141,6 +159,7 @@ module _ {Side Known : Type 0} (parts : Parts Side Known) (kept : Kept Side) (pr
         SpellsExpr parts kept program expr
         × WithoutExpr parts kept program parts.value_fault expr
 
+    -- an expression that is compared with the subject
     abbrev pub Compares : Expr → Expr → Type 0
     Compares subject expr =
         SpellsExpr parts kept program expr
@@ -148,6 +167,7 @@ module _ {Side Known : Type 0} (parts : Parts Side Known) (kept : Kept Side) (pr
         × ((side other : Side) → kept.expr subject side → kept.expr expr other →
         parts.subject_fault (parts.known_of side) other ≡ None))
 
+    -- a test of a WHEN, under this subject
     abbrev pub SpellsTest : Subject → Test → Type 0
     SpellsTest subject tests.Any = Unit {0}
     SpellsTest (subjects.Value expr) (tests.Value not from to) =
@@ -156,6 +176,7 @@ module _ {Side Known : Type 0} (parts : Parts Side Known) (kept : Kept Side) (pr
     SpellsTest subject (tests.Holds cond) = SpellsCond parts kept program cond
     SpellsTest subject (tests.Value not from to) = ⊥
 
+    -- the operand of FROM, for this record
     abbrev pub WrittenFrom : ℕ → Operand → Type 0
     WrittenFrom entry from =
         SpellsValue parts kept program from
@@ -165,10 +186,12 @@ module _ {Side Known : Type 0} (parts : Parts Side Known) (kept : Kept Side) (pr
     -- ---- statements
 
     module _ (Held : Scope → List Stmt → Type 0) (scope : Scope) where
+      -- a statement's arms
       abbrev pub SpellsArms : Arms → Type 0
       SpellsArms arms =
           IfAny (Held scope) (out-Arms arms).first × IfAny (Held scope) (out-Arms arms).second
 
+      -- a WHEN, under this subject
       abbrev pub SpellsWhen : Subject → When → Type 0
       SpellsWhen subject when =
           Some_of (SpellsTest subject) (out-When when).tests × Held scope (out-When when).stmts
@@ -178,7 +201,8 @@ module _ {Side Known : Type 0} (parts : Parts Side Known) (kept : Kept Side) (pr
       HeldOrNone [] = Unit {0}
       HeldOrNone (stmt ∷ others) = Held scope (stmt ∷ others)
 
-      -- no EXIT without a further word, which isn't read as other statements are
+      -- the parts of a statement are spelled; EXIT without a further word isn't read as other
+      -- statements are, so it is none
       abbrev pub SpellsShape : Stmt-F Stmt Arms When → Type 0
       SpellsShape (Stmt-F.Display items advance) =
           Some_of (SpellsValue parts kept program) items
@@ -219,6 +243,7 @@ module _ {Side Known : Type 0} (parts : Parts Side Known) (kept : Kept Side) (pr
       SpellsShape (Stmt-F.ExitPerform cycle) = scope.in_loop ≡ true
       SpellsShape _ = Unit {0}
 
+      -- a statement
       abbrev pub SpellsStmt : Stmt → Type 0
       SpellsStmt stmt = SpellsShape (out-Stmt stmt)
 

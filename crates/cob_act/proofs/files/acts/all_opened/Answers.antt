@@ -6,7 +6,7 @@ use Rattle.file_model.specs.operations.Calls.{addresses_of}
 use Rattle.file_model.specs.operations.Falling.{is_used}
 use Rattle.file_model.proofs.operations_lemmas.FallLemmas.{left_then}
 use Rattle.cob_act.proofs.files_lemmas.BenchLemmas.{broke_after, none_asked}
-use Rattle.cob_act.proofs.files_lemmas.EachLemmas.{begun, each_breaks, each_next, each_stops}
+use Rattle.cob_act.proofs.files_lemmas.EachLemmas.{begun, each_breaks, each_next, each_stops, stops_among}
 use Rattle.std.proofs.lemmas.Result.{err_from_is_err_and}
 use Rattle.cob_act.proofs.files.acts.all_opened.Goals as goal
 
@@ -50,3 +50,10 @@ returns-in_err-abend-clause-breaks g c = λ world over.
 pub returns-in-Abended-clause-bench : goal.returns-in-Abended-clause-bench
 returns-in-Abended-clause-bench g c =
     left_then (is_used (addresses_of c.args.program.now.files)) [] c.args.bench.now.left c.loop-opening.bench.left _ _ _ _ c.loop-opening.invariant.0 c.in_ok-abend.ensures.bench
+
+pub returns-in_err-abend-clause-kept : goal.returns-in_err-abend-clause-kept
+returns-in_err-abend-clause-kept g c = λ world over.
+    let so = c.loop-opening.invariant.1 world over in
+    let declared = declared_with c.args.program.now c.args.areas.now in
+    let p = err_from_is_err_and c.from_residual.result c.from_residual.ensures.1 in
+    rw p.1 (stops_among (opened declared) c.args.program.now.files (each_file (opened declared) c.args.store.now world c.args.openings.now) world c.args.openings.now c.loop-opening.opening-index c.loop-opening.store c.opened.new.store _ _ so c.in_err-abend.ensures.kept)

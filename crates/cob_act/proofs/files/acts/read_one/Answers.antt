@@ -1,11 +1,11 @@
-use Rattle.std.proofs.Common.{◌∙◌, Bool, Err, ap, map, take, ℕ}
+use Rattle.std.proofs.Common.{◌∙◌, Bool, Err, ap, inl, inr, map, refl, take, ℕ}
 use Rattle.std.specs.Prelude.{option_copied}
 use Rattle.file_model.specs.Attempts.{read_at}
 use Rattle.meanings.specs.statements.Does.{declared_with}
 use Rattle.meanings.specs.statements.Filing.{address_at, read, record_spot}
 use Rattle.file_model.specs.contracts.operations.watched.BoxDynDeviceWatched.TheImpl.{seen-value}
 use Rattle.cob_act.proofs.files_lemmas.EffectLemmas.{ended_by}
-use Rattle.cob_act.proofs.files_lemmas.ReadLemmas.{nothing_done, read_came, read_went, record_came_first}
+use Rattle.cob_act.proofs.files_lemmas.ReadLemmas.{nothing_done, read_came, read_went, record_came_first, stands_without_into}
 use Rattle.std.proofs.lemmas.Result.{err_from_is_err_and}
 use Rattle.cob_act.proofs.files_lemmas.BenchLemmas.{wanted_after}
 use Rattle.cob_act.proofs.files_lemmas.DeskLemmas.{stays_listed}
@@ -20,7 +20,7 @@ returns-in_ok-read_end-in_default-clause-does g c = λ world over.
     (take c.args.bench.now.left (map (seen-value g.dyn-1).it c.args.bench.now.devices.items)) (take c.next_record.new.bench.left (map (seen-value g.dyn-1).it c.next_record.new.bench.devices.items)) c.args.table.now.rows c.next_record.new.table.rows world
     c.record_spot-spot.ensures c.as_slice-files.ensures c.as_slice.ensures.value c.in_ok-status.ensures.room (c.in_ok-status.ensures.does world) (c.in_ok-status.ensures.came world) c.record_put.ensures over in
     read_went declared c.args.program.now.files file (option_copied c.args.reading.into) c.args.reading.at_end c.args.reading.arms c.args.store.now c.record_put.new.store c.settled.new.store c.read_end.new.store attempt c.in-Ok.item c.in_ok-status.status c.settled.result c.in_ok-read_end-in_default.field-0 world
-    (take c.next_record.new.bench.left (map (seen-value g.dyn-1).it c.next_record.new.bench.devices.items)) c.next_record.new.table.rows c.in-Ok.ensures came.0 came.1 (c.settled.ensures.end ∙ ap (λ (cared : Bool). ended_by cared c.in-Ok.item c.in_ok-status.status) c.is_cared-cared.ensures) c.settled.ensures.store c.in_default.not-Abended c.in_ok-read_end-in_default.ensures
+    (take c.next_record.new.bench.left (map (seen-value g.dyn-1).it c.next_record.new.bench.devices.items)) c.next_record.new.table.rows c.in-Ok.ensures came.0 came.1 (c.settled.ensures.end ∙ ap (λ (cared : Bool). ended_by cared c.in-Ok.item c.in_ok-status.status) c.is_cared-cared.ensures) c.settled.ensures.store c.in_default.not-Abended c.in_ok-read_end-in_default.ensures.does
 
 pub returns-in_err-status-clause-breaks : goal.returns-in_err-status-clause-breaks
 returns-in_err-status-clause-breaks g c = λ world over.
@@ -45,3 +45,21 @@ returns-in_err-read_end-in_default-clause-breaks g c = λ world over.
     rw (p.1, p.2)
     (record_came_first declared c.args.program.now.files file (option_copied c.args.reading.into) c.args.reading.at_end c.args.reading.arms c.args.store.now c.record_put.new.store c.settled.new.store attempt c.in-Ok.item c.in_ok-status.status c.settled.result world
     c.next_record.new.bench.left _ c.next_record.new.table.rows c.in-Ok.ensures came.0 came.1 (c.settled.ensures.end ∙ ap (λ (cared : Bool). ended_by cared c.in-Ok.item c.in_ok-status.status) c.is_cared-cared.ensures) c.settled.ensures.store c.in_default.not-Abended)
+
+pub returns-in_err-status-clause-kept : goal.returns-in_err-status-clause-kept
+returns-in_err-status-clause-kept g c = λ world over.
+    let p = err_from_is_err_and c.from_residual.result c.from_residual.ensures.1 in
+    rw p.1 (inl refl)
+
+pub returns-in_err-read_end-in_default-clause-kept : goal.returns-in_err-read_end-in_default-clause-kept
+returns-in_err-read_end-in_default-clause-kept g c = λ world over.
+    let declared = declared_with c.args.program.now c.args.areas.now in
+    let file = c.args.reading.file in
+    let attempt = read_at world file (address_at declared file) (record_spot declared file).length in
+    let came = read_came declared c.as_slice-files.result.now file c.args.store.now c.record_put.new.store c.record_spot-spot.result c.in_ok-status.status c.next_record.new.scratch.items c.as_slice.result.now
+    (take c.args.bench.now.left (map (seen-value g.dyn-1).it c.args.bench.now.devices.items)) (take c.next_record.new.bench.left (map (seen-value g.dyn-1).it c.next_record.new.bench.devices.items)) c.args.table.now.rows c.next_record.new.table.rows world
+    c.record_spot-spot.ensures c.as_slice-files.ensures c.as_slice.ensures.value c.in_ok-status.ensures.room (c.in_ok-status.ensures.does world) (c.in_ok-status.ensures.came world) c.record_put.ensures over in
+    let p = err_from_is_err_and c.from_residual-in_err-read_end-in_default.result c.from_residual-in_err-read_end-in_default.ensures.1 in
+    rw p.1
+    (inr (stands_without_into declared c.args.program.now.files file c.args.reading.at_end c.args.reading.arms c.args.store.now c.record_put.new.store c.settled.new.store c.read_end.new.store attempt c.in-Ok.item c.in_ok-status.status c.settled.result world
+    _ c.next_record.new.table.rows c.in-Ok.ensures came.0 came.1 (c.settled.ensures.end ∙ ap (λ (cared : Bool). ended_by cared c.in-Ok.item c.in_ok-status.status) c.is_cared-cared.ensures) c.settled.ensures.store c.in_default.not-Abended c.in_err-read_end-in_default.ensures.kept))

@@ -1,4 +1,4 @@
-use Rattle.std.proofs.Common.{Err, Ok, map, take, ℕ}
+use Rattle.std.proofs.Common.{Err, Ok, inr, map, take, ℕ}
 use Rattle.std.specs.Prelude.{option_copied}
 use Rattle.file_model.specs.Attempts.{rewritten_at}
 use Rattle.file_model.specs.World.{Rewrite}
@@ -16,7 +16,7 @@ use Rattle.cob_act.proofs.files.acts.rewritten.Goals as goal
 pub returns-in_ok-status-in-Ok-clause-does : goal.returns-in_ok-status-in-Ok-clause-does
 returns-in_ok-status-in-Ok-clause-does g c = λ world over.
     let declared = declared_with c.args.program.now c.args.areas.now in
-    let puts = rw c.in-Ok.is at c.in_ok-abend.ensures in
+    let puts = rw c.in-Ok.is at c.in_ok-abend.ensures.does in
     put_did declared c.args.program.now.files Rewrite (rewritten_at world) c.args.entry (from_by declared c.args.entry c.args.store.now (option_copied c.args.from)) c.put_out.new.store c.settled.new.store c.put_out.new.scratch.items c.in-Ok.item c.in_ok-status-in-Ok.status c.settled.result world (take c.rewrite.new.bench.left (map (seen-value g.dyn-1).it c.rewrite.new.bench.devices.items)) c.rewrite.new.table.rows
     puts
     (tried_at (rewritten_at world) c.args.program.now.files c.as_slice-files.result.now (Ok c.in_ok-status-in-Ok.status) (file_of declared c.args.entry) c.file_of-file.result c.put_out.new.scratch.items c.as_slice.result.now
@@ -38,3 +38,14 @@ returns-in_err-status-in-Ok-clause-breaks g c = λ world over.
     let p = err_from_is_err_and c.from_residual-in_err-status-in-Ok.result c.from_residual-in_err-status-in-Ok.ensures.1 in
     let broke = stays_listed {A = ℕ} (Err c.in_err-status-in-Ok.field-0.0) c.as_slice-files.result.now c.args.program.now.files _ c.args.table.now.rows world _ _ _ c.as_slice-files.ensures (c.in_err-status-in-Ok.ensures.breaks world) over in
     rw (p.1, p.2) (nothing_done c.in_err-status-in-Ok.field-0.0 c.args.program.now.files world (rewritten (declared_with c.args.program.now c.args.areas.now) c.args.store.now world c.args.entry (option_copied c.args.from)) _ _ _ broke)
+
+pub returns-in_err-abend-clause-kept : goal.returns-in_err-abend-clause-kept
+returns-in_err-abend-clause-kept g c =
+    let p = err_from_is_err_and c.from_residual.result c.from_residual.ensures.1 in
+    rw p.1 c.in_err-abend.ensures.kept
+
+pub returns-in_err-status-in-Ok-clause-kept : goal.returns-in_err-status-in-Ok-clause-kept
+returns-in_err-status-in-Ok-clause-kept g c =
+    let puts = rw c.in-Ok.is at c.in_ok-abend.ensures.does in
+    let p = err_from_is_err_and c.from_residual-in_err-status-in-Ok.result c.from_residual-in_err-status-in-Ok.ensures.1 in
+    rw p.1 (inr puts.0)

@@ -23,7 +23,9 @@ simple_turn parts level scope found p goes_on simple =
 
 pub stmts_turn-returns-then-at_simple : goal.stmts_turn-returns-then-at_simple
 stmts_turn-returns-then-at_simple g t c =
-    subst (λ o. Reads o c.simple.result c.simple.new.cursor) (sym (simple_turn (g.P.Parts.parts c.args.parts.now) (all.level (g.P.Parts.parts c.args.parts.now) c.args.context.levels) c.args.context.scope c.args.found c.args.cursor.now c.if-pending_not.false (sym c.at_simple.ensures ∙ c.if-at_simple.true))) c.simple.ensures
+    let before : Found = (c.found.inside.stmts, c.found.inside.pending_not) in
+    subst (λ found. Reads ((all.stmts_turn (g.P.Parts.parts c.args.parts.now) (all.level (g.P.Parts.parts c.args.parts.now) c.args.context.levels) c.args.context.scope found).reads c.args.cursor.now) c.simple.result c.simple.new.cursor) c.found.view_is
+    (subst (λ o. Reads o c.simple.result c.simple.new.cursor) (sym (simple_turn (g.P.Parts.parts c.args.parts.now) (all.level (g.P.Parts.parts c.args.parts.now) c.args.context.levels) c.args.context.scope before c.args.cursor.now c.if-pending_not.false (sym c.at_simple.ensures ∙ c.if-at_simple.true))) c.simple.ensures)
 
 pub whens_from-returns-in_err-state : goal.whens_from-returns-in_err-state
 whens_from-returns-in_err-state g t c =
@@ -53,9 +55,9 @@ stmts_from-stmts-preserved g t c = goes_on (begins_stmt) (laws.stmts_turn (g.met
 pub stmts_from-returns : goal.stmts_from-returns
 stmts_from-returns g t c = is_done (begins_stmt) (laws.stmts_turn (g.met.P.Parts.lawful c.args.parts.now) (laws.level (g.met.P.Parts.lawful c.args.parts.now) c.args.context.levels) c.args.context.scope) c.stmts.found c.stmts.cursor _ c.stmts-test.ensures c.stmts.invariant
 
-pub held-returns-then-levels-eq0 : goal.held-returns-then-levels-eq0
+pub held-returns-then-context-eq0 : goal.held-returns-then-context-eq0
 unfolding all.held
-held-returns-then-levels-eq0 g t c =
+held-returns-then-context-eq0 g t c =
     let none : c.args.context.levels ≡ 0 = omega arith in ap (λ n. (all.held (g.P.Parts.parts c.args.parts.now) n c.args.context.scope).reads c.args.cursor.now) none
 
 pub held-returns : goal.held-returns
