@@ -20,7 +20,7 @@ effect_by world store shown Shown = record {
 effect_by world store shown (Chose arm) = files.no_effect store (files.Chose arm)
 effect_by world store shown (Abended abend) = files.no_effect store (files.Abended abend)
 
--- no statement on files
+-- the statement is none on files
 abbrev pub is_inner : Stmt → Bool
 is_inner stmt =
     elim (out-Stmt stmt) [

@@ -7,7 +7,7 @@ abbrev pub root_of : Option Area → ℕ
 root_of None = 0
 root_of (Some area) = area.root
 
--- where it starts in its root
+-- where an item starts in its root
 abbrev pub start_of : Option Area → ℕ
 start_of None = 0
 start_of (Some area) = area.start

@@ -99,7 +99,7 @@ sized_either faulty [] = record { sizes = []; pieces = [] }
 sized_either faulty (entry ∷ entries) =
     sized_by_either faulty entry (sized_either faulty entries)
 
--- the sizes with those of an entry, by itself without fault
+-- the sizes with that of an entry without fault
 abbrev pub sized_by : Entry → Sized → Sized
 sized_by = sized_by_either false
 

@@ -25,7 +25,7 @@ use Rattle.cobol_grammar.specs.declared.subject_kind.SubjectKind.{SubjectKind}
 abbrev pub bare_place : ℕ → Place
 bare_place item = roll-Place (record { item = item; of = []; subs = []; window = None })
 
--- no operand is a sum
+-- the operand that a side is; none is a sum
 abbrev pub operand_of : ParsedExpr → Operand
 operand_of (whats.Ref place) = operands.Place place
 operand_of (whats.Literal operand) = operand

@@ -86,8 +86,8 @@ pub record IsGivenParagraph (program : Program) (paragraph : Paragraph) : Type 0
   pub name : AreFree (name_tokens paragraph.name)
   pub sentences : All (IsGivenSentence program) paragraph.sentences
 
--- its names are words or digits of at most 30 and 18 bytes and never PIC or PICTURE, its numbers
--- have at most 18 digits, and its literals 1 to 160 bytes without control characters
+-- the names of the program are words or digits of at most 30 and 18 bytes and never PIC or PICTURE,
+-- its numbers have at most 18 digits, and its literals 1 to 160 bytes without control characters
 pub record IsGiven (program : Program) : Type 0 where
   pub name : IsFree (kind.Word program.name)
   pub files : All (IsGivenFile program) program.files

@@ -17,7 +17,7 @@ pub record Rest : Type 0 where
   -- the lines below it
   pub below : List Row
 
--- these bytes before what is on the line
+-- the lines with these bytes before what is on the first
 abbrev pub in_front : List ℕ → Rest → Rest
 in_front bytes rest = record { here = bytes ++ rest.here; below = rest.below }
 

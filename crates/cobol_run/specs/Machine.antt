@@ -96,6 +96,6 @@ rests_by plan rest state =
 abbrev pub steps_by : Plan → State → State
 steps_by plan state = step_in plan.program.now (declared_by plan) state
 
--- its numbers of paragraphs fit
+-- the machine's numbers of paragraphs fit
 abbrev pub IsNumbered : Plan → Type 0
 IsNumbered plan = length plan.program.now.paragraphs < 2 ^ 32

@@ -43,7 +43,7 @@ way_seen last (Abends abend) shown memory rest =
 way_seen last (To paragraph) shown memory rest = control.To [] memory paragraph
 way_seen last ToSectionEnd shown memory rest = control.ToEnd [] memory last
 
--- it goes on with these items
+-- the way that goes on with these items
 abbrev pub on : List Item → Memory → control.Way Memory
 on items memory = control.On [] memory items
 

@@ -57,7 +57,7 @@ abbrev pub armed_rest : ℕ → ActOutcome → Arms → List Item → List Item
 armed_rest last (done.Chose arm) arms rest = before (seen_stmts last (either arms (arm == 1))) rest
 armed_rest last _ arms rest = rest
 
--- it went on with this rest, or ended the run
+-- the way of a statement on files: it went on with this rest, or ended the run
 abbrev pub filed_way : ActOutcome → Trace → Memory → List Item → control.Way Memory
 filed_way (done.Abended abend) events memory rest =
     control.Halts events (Abend (abend_number abend)) memory
@@ -73,7 +73,7 @@ FiledOver (Ok done) files devices table store frames meant =
     × IsOver files devices table now
 FiledOver (Err fault) files devices table store frames meant = Unit {0}
 
--- it broke off after some of these operations, which display nothing
+-- the statement broke off after some of these operations, which display nothing
 abbrev pub BrokeBehind : FileFault → List FileEntry → World → List Operation → (left : ℕ) →
     List Seen → List FileRow → Type 0
 BrokeBehind fault files world operations left devices table = (some : ℕ)
@@ -162,15 +162,15 @@ pub record SoFarOver (program : Program) (files : Files) (machine : Machine) (de
 
 -- ---- what a run comes to, by what it leaves of the world
 
--- it ended so within so many steps, and the sink gained what they displayed
+-- the run ended so within so many steps, and the sink gained what they displayed
 abbrev pub EndsAt : Program → Files → ℕ → SinkCall → (World → Type 0) → Ending → Type 0
 EndsAt program files steps sink Left ending =
     Stands program files steps
     (Over (ending_seen ending (world_after program files steps).shelves)) sink
     × Left (world_after program files steps)
 
--- it broke off after so many steps and so many operations of the next, which display nothing, and
--- the sink gained what was displayed up to there
+-- the run broke off after so many steps and so many operations of the next, which display nothing,
+-- and the sink gained what was displayed up to there
 abbrev pub BreaksAt : Program → Files → ℕ → SinkCall → (World → Type 0) → Type 0
 BreaksAt program files steps sink Left =
     (done : ℕ) × (some : ℕ) × (done ≤ steps)

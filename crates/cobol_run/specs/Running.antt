@@ -35,7 +35,7 @@ Stands program files steps standing sink =
     ((source_run program files steps).standing ≡ standing)
     × Gains (displayed (source_run program files steps).trace) sink
 
--- it broke off after at most so many steps, and the sink gained what they displayed
+-- the run broke off after at most so many steps, and the sink gained what they displayed
 abbrev pub BreaksOff : Program → Files → ℕ → SinkCall → Type 0
 BreaksOff program files steps sink =
     (done : ℕ) × (done ≤ steps) × Gains (displayed (source_run program files done).trace) sink

@@ -27,7 +27,7 @@ bars_value group = is_some group.redefines || (is_some group.occurs || is_some g
 abbrev pub standing_in : List Entry → Standing
 standing_in groups = record { dims = dims_in groups; barred = list_any bars_value groups }
 
--- what the groups above an entry are, after the entries before it
+-- what the groups above an entry are, by the entries before it
 abbrev pub standing_of : Entry → (before : List Entry) → Standing
 standing_of entry before =
     standing_in (groups_of (bound_of entry.level) entry.file (reverse before))

@@ -54,7 +54,7 @@ read_on size file =
       last = Some file.at;
     }
 
--- these bytes come after the file's
+-- the file with these bytes after its own
 abbrev pub appended : List ℕ → MemFile → MemFile
 appended bytes file =
     record {
@@ -136,7 +136,7 @@ GivesAtMost most (got.Bytes n) = n ≤ most
 GivesAtMost most got.End = Unit {0}
 GivesAtMost most got.Failed = Unit {0}
 
--- where no bytes were given the buffer stays as it was
+-- the buffer stays as it was where no bytes were given
 abbrev pub StaysUngiven : Got → (old new : List ℕ) → Type 0
 StaysUngiven (got.Bytes n) old new = n ≡ 0 → new ≡ old
 StaysUngiven got.End old new = new ≡ old

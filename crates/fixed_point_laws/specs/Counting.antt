@@ -38,8 +38,8 @@ IsChosenBy Count = ⊥
 IsChosenBy State = Unit {0}
 IsChosenBy Exit = Unit {0}
 
--- it tells how many arms the first choice by each cell has, where these are no more than a graph's
--- nodes and one
+-- the numbers tell how many arms the first choice by each cell has, where these are no more than a
+-- graph's nodes and one
 abbrev pub TellsArms : Plan → Program → (Range → ℕ → ℕ) → Type 0
 TellsArms plan program most = (range : Range) → In range (Main ∷ plan.others) → (cell : ℕ) →
     (kind : Added) → kind_at (closed_graph (graphs_by plan program range)).added cell ≡ Some kind →

@@ -27,7 +27,7 @@ pub record IsFirstWritten (plan : Plan) (program : Program) (naming : Naming) (t
   pub result : IsSource told (result_by plan program naming)
   pub names : NamesAlike naming plan.told told
 
--- flow paths enter each paragraph of the result
+-- flow paths enter each paragraph of the result after the first
 abbrev pub ResultsAreEntered : Type 0
 ResultsAreEntered =
     (plan : Plan) (program : Program) (naming : Naming) (told : FlowFacts) →

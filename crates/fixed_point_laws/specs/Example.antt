@@ -16,7 +16,7 @@ abbrev pub stopping_kept : Range → Label → Bool
 stopping_kept Main label = label == 0
 stopping_kept (Part entry exit) label = true
 
--- it has no files, nothing returns, and main is its one range
+-- the plan: there are no files, nothing returns, and main is the one range
 abbrev pub stopping_plan : Plan
 stopping_plan = record { told = flow_facts_of [] []; keep = stopping_kept; others = [] }
 
@@ -37,7 +37,7 @@ stopping_way = record {
   range = Main;
 }
 
--- it is written as itself, and what a result that comes again asks is met
+-- the program is written as itself, and what a result that comes again asks is met
 abbrev pub StoppingComesAgain : Type 0
 StoppingComesAgain =
     (result_by stopping_plan stopping (naming_in stopping_way) ≡ stopping)

@@ -24,7 +24,7 @@ pub record GoesByPlaces (program : Program) (order : List tree.Range) : Type 0 w
   pub begins : (number : ℕ) (range : tree.Range) → slice_get order number ≡ Some range →
       range.entry ≡ number
 
--- where flow paths enter each of them
+-- the order of a structured program is that of its paragraphs, where flow paths enter each of them
 abbrev pub PlansGoByPlaces : Type 0
 PlansGoByPlaces =
     (told : FlowFacts) (program : Program) (summary : Summary) (returning : List (List ℕ))

@@ -10,7 +10,7 @@ abbrev pub BeginInOrder : List Range → Type 0
 BeginInOrder order = (number : ℕ) (range : Range) → slice_get order number ≡ Some range →
     range.entry ≡ number
 
--- each range is called as its paragraph, which has a name
+-- each range is called as its paragraph, where that has a name
 abbrev pub NamesComeAgain : Type 0
 NamesComeAgain =
     (program : Program) (order : List Range) → BeginInOrder order → (number : ℕ) →

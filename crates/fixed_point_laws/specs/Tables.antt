@@ -11,7 +11,8 @@ use Rattle.added_items.specs.item_table.Laws.{closed_ranges}
 use Rattle.added_items.specs.item_table.Tables.{most_arms, table_of_cells}
 use Rattle.fixed_point_laws.specs.Counting.{IsChosenBy}
 
--- where no graph has as many nodes as a state has numbers
+-- the table of cells tells how many arms the first choice by each cell has, where no graph has as
+-- many nodes as a state has numbers
 abbrev pub TablesTellArms : Type 0
 TablesTellArms =
     (order : List Range) (graphs : Graphs) →

@@ -17,7 +17,7 @@ parts_of (paragraph ∷ others) = suc (total paragraph) + parts_of others
 abbrev pub IsNamed : Paragraph → Type 0
 IsNamed paragraph = IsSome paragraph.name
 
--- one at least for each paragraph that has a name, and for each statement
+-- there is one token at least for each paragraph that has a name, and for each statement
 abbrev pub EachPartIsAToken : Type 0
 EachPartIsAToken = (program : Program) → All IsNamed program.paragraphs →
     parts_of (control_of program).paragraphs ≤ length (all_tokens (program_units program))

@@ -24,7 +24,8 @@ IsSizeAt telling spots range label size = (program : source.Program) →
     IsTableOf telling spots program →
     size ≡ min (tree_size (node_in telling program range label)) (2 ^ 64 - 1)
 
--- so large are the labels with the trees there
+-- the trees at these labels, with the labels, count so many in any program, up to the last number
+-- of 64 bits
 abbrev pub CountsTo : LoweringContext → List Continuation → code.Range → List ℕ → ℕ → Type 0
 CountsTo telling spots range labels count =
     (program : source.Program) → IsTableOf telling spots program →
@@ -32,7 +33,7 @@ CountsTo telling spots range labels count =
     ≡ min (sum_by (λ (label : ℕ). 1 + tree_size (node_in telling program range label)) labels)
     (2 ^ 64 - 1)
 
--- they are no larger than this
+-- they count no more than this
 abbrev pub CountsWithin : LoweringContext → List Continuation → code.Range → List ℕ → (most : ℕ) →
     Type 0
 CountsWithin telling spots range labels most =
@@ -44,7 +45,7 @@ IsLarger told program range most = (keep : Label → Bool) →
     AreJustReached told program range keep →
     most < graph_size (lowered_graph told program range keep)
 
--- whatever the program
+-- the graph of the range is larger than this, whatever the program
 abbrev pub IsLargerIn : LoweringContext → List Continuation → code.Range → ℕ → Type 0
 IsLargerIn telling spots range most =
     (program : source.Program) → IsRangeIn telling spots range program →

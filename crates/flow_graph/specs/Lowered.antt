@@ -42,7 +42,7 @@ IsLowered told program range made =
     (keep : graph.Label → Bool) × AreJustReached told program range keep
     × (seen_graph made ≡ lowered_graph told program range keep)
 
--- whatever the program
+-- it is the graph of the range, whatever the program
 abbrev pub IsLoweredIn : LoweringContext → List Continuation → code.Range → Graph → Type 0
 IsLoweredIn telling spots range made =
     (program : source.Program) → IsRangeIn telling spots range program →

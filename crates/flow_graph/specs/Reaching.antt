@@ -22,7 +22,7 @@ pub record IsRangeIn (telling : LoweringContext) (spots : List Continuation) (ra
   -- the range is one of the program
   pub own : IsRangeOf (control_of program) (seen_range range)
 
--- it is reached in the range
+-- the label is reached in the range
 abbrev pub Reaches : LoweringContext → Program → code.Range → ℕ → Type 0
 Reaches telling program range label =
     IsReached (lowered (flow_facts_by telling) (control_of program)) (seen_range range) label

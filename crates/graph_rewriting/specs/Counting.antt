@@ -10,7 +10,7 @@ use Rattle.graph_rewriting.specs.Rewriting.{bare}
 use Rattle.branch_tree.specs.declared.tree.Tree as code
 use Rattle.graph_rewriting.specs.declared.kept.Kept.{Kept}
 
--- in the slot there is a node with this label, this tree and this count
+-- there is a node with this label, this tree and this count in the slot
 pub record Stands (slots : Slab Kept) (label : Label) (key : ℕ) (tree : Tree) (count : ℕ)
     : Type 0 where
   pub kept : Kept
@@ -26,12 +26,12 @@ Holds keys slots trees counts = (label : Label) (key : ℕ) →
     map.get nat_cmp keys label ≡ Some key →
     Stands slots label key (trees label) (counts label)
 
--- so many leaves more, as far as the type's last number, or less
+-- the count with so many leaves more, as far as the type's last number, or less
 abbrev pub turned : Bool → ℕ → ℕ → ℕ
 turned true more count = count + min more (2 ^ 32 - 1 - count)
 turned false more count = count - more
 
--- so many leaves more or less to each label
+-- each label has so many leaves more or less
 abbrev pub Counts : Bool → (Label → ℕ) → BTreeMap ℕ ℕ → Slab Kept → Slab Kept → Type 0
 Counts comes more keys old new = (trees : Label → Tree) (counts : Label → ℕ) →
     Holds keys old trees counts →
@@ -41,7 +41,7 @@ Counts comes more keys old new = (trees : Label → Tree) (counts : Label → �
 abbrev pub once_at : Label → Label → ℕ
 once_at label l = if label == l then 1 else 0
 
--- in one slot there is another node
+-- there is another node in one slot
 pub record Rewrites (key : ℕ) (before after : Kept) (old new : Slab Kept) : Type 0 where
   -- this node was in the slot
   pub had : get old key ≡ Some before
@@ -50,7 +50,7 @@ pub record Rewrites (key : ℕ) (before after : Kept) (old new : Slab Kept) : Ty
   -- every other slot is the same
   pub others : (other : ℕ) → other ≢ key → get new other ≡ get old other
 
--- with another tree
+-- the node has another tree, and the same label and count
 abbrev pub Retrees : Kept → Kept → Type 0
 Retrees before after = (after.node.label ≡ before.node.label) × (after.incoming ≡ before.incoming)
 

@@ -13,8 +13,8 @@ use Rattle.graph_rewriting.specs.Helds.{Held}
 use Rattle.branch_tree.specs.declared.graph.Node as code
 use Rattle.branch_tree.specs.declared.tree.Tree as code_tree
 
--- its labels rise, its entry and each label that a leaf jumps to are labels of nodes, and the
--- leaves to a label can be counted
+-- the labels of the graph rise, its entry and each label that a leaf jumps to are labels of nodes,
+-- and the leaves to a label can be counted
 pub record IsSound (graph : Graph) : Type 0 where
   -- the labels rise
   pub rising : Rising graph.nodes

@@ -18,7 +18,7 @@ pub record Closed : Type 0 where
   -- what the items that it adds are for
   pub kinds : List Added
 
--- with one target: a loop with a test of its own, or with a flag
+-- the node at a label as a loop with one target: with a test of its own, or with a flag
 abbrev pub closed_form : Label → ℕ → Tree → Targets → Option reduced.Form → Closed
 closed_form label cell t targets (Some form) =
     record { node = formed_if targets (Some form) t; kinds = [] }

@@ -43,7 +43,7 @@ named words None from =
     let number = fresh_number words procedure_stem from in
     record { name = procedure_stem ++ decimal number; next = suc number }
 
--- of the ranges after these, the next fresh name being looked for from a number on
+-- the names of the ranges after these, the next fresh name being looked for from a number on
 abbrev pub names_behind :
     List (List ℕ) → List Paragraph → List Range → ℕ → List Range → List (List ℕ)
 names_behind words paragraphs before from [] = []

@@ -27,7 +27,7 @@ AreWaiting calls stands waiting =
     (number : ℕ) → number < length calls →
     slice_index_or waiting number false ≡ waits calls stands number
 
--- by the flags of what is placed and of what waits
+-- the range is neither placed nor waiting, by these flags
 abbrev pub may_stand : List Bool → List Bool → ℕ → Bool
 may_stand stands waiting number =
     not (slice_index_or stands number true) && not (slice_index_or waiting number false)

@@ -16,13 +16,13 @@ abbrev pub entry_names : List Entry → List (List ℕ)
 entry_names [] = []
 entry_names (entry ∷ entries) = option_to_list entry.name ++ entry_names entries
 
--- of paragraphs and sections
+-- the names of paragraphs and sections
 abbrev pub paragraph_names : List Paragraph → List (List ℕ)
 paragraph_names [] = []
 paragraph_names (paragraph ∷ paragraphs) =
     option_to_list paragraph.name ++ option_to_list paragraph.section ++ paragraph_names paragraphs
 
--- its name, and those of its files, items, paragraphs and sections
+-- the name of a program, and those of its files, items, paragraphs and sections
 abbrev pub program_words : Program → List (List ℕ)
 program_words program =
     program.name ∷ file_names program.files ++ entry_names program.entries

@@ -69,7 +69,7 @@ IsTakenOut taken most (ToStart to now) = IsBetween taken most now
 IsTakenOut taken most (Met entry exit now) = IsBetween taken most now
 IsTakenOut taken most Lost = Unit {0}
 
--- from here the moves lead to what is sought
+-- the moves lead from here to what is sought
 abbrev pub Arrives : Known → Sought → Walk → Type 0
 Arrives known sought from = (end : Walk)
     × Leads known.never_first sought.program known.lemmas sought.range from end

@@ -18,27 +18,27 @@ use Rattle.overlap_trail.specs.declared.follow.Branch.TheVariants.{First, Second
 use Rattle.overlap_trail.specs.declared.follow.Followed.{Followed}
 use Rattle.overlap_trail.specs.declared.follow.Followed.TheVariants.{Through, To, Left, Ended, SectionEnded, Broken, Cycled, Met, Lost}
 
--- by what moves are followed: the choosers that never give their first arm, and the ranges that may
+-- what moves are followed by: the choosers that never give their first arm, and the ranges that may
 -- be stepped over
 pub record Known : Type 0 where
   pub never_first : Chooser → Bool
   pub lemmas : List Range
 
--- with the ranges of these lemmas
+-- what moves are followed by, with the ranges of these lemmas
 abbrev pub knowing : (Chooser → Bool) → List Lemma → Known
 knowing never_first lemmas = record { never_first = never_first; lemmas = lemma_ranges lemmas }
 
--- in a program with these files, and with these lemmas
+-- what moves are followed by in a program with these files, and with these lemmas
 abbrev pub known_of : List FileEntry → List Lemma → Known
 known_of files lemmas = knowing (never_first_of files) lemmas
 
--- in which level, and to what
+-- what moves are to lead to, and in which level
 pub record Sought : Type 0 where
   pub program : Program
   pub range : Range
   pub aim : Aim
 
--- this aim, in this range of a program
+-- what is sought: this aim, in this range of a program
 abbrev pub sought_of : Program → Range → Aim → Sought
 sought_of program range aim = record { program = program; range = range; aim = aim }
 
@@ -68,12 +68,12 @@ abbrev pub Goes : Known → Sought → Walk → Walk → Type 0
 Goes known sought from to = (via : Walk) × (MeetsAt known sought from → ⊥)
     × (onward_at known sought from ≡ Some via) × Quietly known sought via to
 
--- it leads to where no step leads on, and what is sought isn't met there
+-- the walk leads to where no step leads on, and what is sought isn't met there
 abbrev pub IsStuck : Known → Sought → Walk → Type 0
 IsStuck known sought from = (end : Walk) × Quietly known sought from end
     × (MeetsAt known sought end → ⊥) × (onward_at known sought end ≡ None)
 
--- it leads to a PERFORM that no move steps over
+-- the walk leads to a PERFORM that no move steps over
 abbrev pub IsMet : Known → Sought → Walk → ℕ → ℕ → List Move → Type 0
 IsMet known sought from entry exit moves = (point : Point) × (after : Point)
     × Quietly known sought from (walk point moves)
@@ -147,7 +147,7 @@ Turns known moves last taken body way =
     IsTurn known sought paragraph rest control body first →
     ComesTo known sought last paragraph rest moves (walk first (drop taken moves)) way
 
--- from one turn of a loop to another, which so many moves are taken at
+-- the moves lead from one turn of a loop to another
 abbrev pub TurnsOn : Known → List Move → Body → ℕ → ℕ → Type 0
 TurnsOn known moves body taken now =
     (control : Control) (sought : Sought) (paragraph : ℕ) (rest : List Item) (first : Point) →
@@ -170,7 +170,7 @@ FollowsOn known moves stmts left taken now =
 
 -- Moves.
 
--- so many moves are taken now: no fewer than before, and no more than there are
+-- the moves that are taken now are no fewer than before, and no more than there are
 abbrev pub IsBetween : ℕ → ℕ → ℕ → Type 0
 IsBetween taken most now = (taken ≤ now) × (now ≤ most)
 
@@ -200,12 +200,12 @@ first_over (Arm number ∷ moves) = None
 first_over (Over number ∷ moves) = Some number
 first_over (Into ∷ moves) = None
 
--- after the moves that are taken comes the one that chooses this arm
+-- the move that chooses this arm comes after the moves that are taken
 abbrev pub IsArmFirst : List Move → ℕ → ℕ → Type 0
 IsArmFirst moves taken number = (drop taken moves ≡ Arm number ∷ drop (taken + 1) moves)
     × (taken < length moves)
 
--- after the moves that are taken comes one that steps over the lemma with this number
+-- a move that steps over the lemma with this number comes after the moves that are taken
 abbrev pub IsOverFirst : List Move → ℕ → ℕ → Type 0
 IsOverFirst moves taken number = (drop taken moves ≡ Over number ∷ drop (taken + 1) moves)
     × (taken < length moves)

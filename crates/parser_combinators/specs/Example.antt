@@ -52,7 +52,7 @@ digit = one (λ position kind. digit_of kind)
 abbrev pub term_with : Form ℕ → Form ℕ
 term_with inner = where_next (is_mark opening) inner digit
 
--- from a value on; less than nothing is nothing
+-- what follows a minus sign, taken from a value; less than nothing is nothing
 abbrev pub less : Form ℕ → ℕ → Form ℕ
 less term left = do
   mark minus

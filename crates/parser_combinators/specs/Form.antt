@@ -21,7 +21,7 @@ pub record Input : Type 0 where
 abbrev pub at : List Token → Input → Input
 at rest p = record p { rest = rest }
 
--- one token is taken, and these are left
+-- the input after one token, of which these are left
 abbrev pub past : List Token → Input → Input
 past rest p = record p { rest = rest; taken = p.taken + 1 }
 
@@ -68,7 +68,7 @@ pub record Form (A : Type 0) : Type 1 where
 
 -- ---- nothing
 
--- no token, and this value
+-- this value, and no token
 abbrev pub pure : {A : Type 0} → A → Form A
 pure a = record {
   spells = λ p b q. (a ≡ b) × (p ≡ q);
@@ -76,7 +76,7 @@ pure a = record {
   reads = λ p. Got a p;
 }
 
--- no token, and no value, for this reason
+-- no value, and no token, for this reason
 abbrev pub refuse : {A : Type 0} → Why → Form A
 refuse why = record {
   spells = λ p b q. ⊥;
@@ -150,7 +150,7 @@ abbrev pub next_position : List Token → Input → Option Position
 next_position [] p = None
 next_position (t ∷ ts) p = Some (position_of p t)
 
--- no token, and where the next one is
+-- the position of the next token, and no token
 abbrev pub here : Form (Option Position)
 here = record {
   spells = λ p a q. (next_position p.rest p ≡ a) × (p ≡ q);
@@ -189,7 +189,7 @@ begins_by begin (Some kind) = begin kind
 abbrev pub is_next : (TokenKind → Bool) → Input → Bool
 is_next begin p = begins_by begin (next p.rest)
 
--- so many turns, and then no other one
+-- the tokens spell so many turns, and then no other one
 abbrev pub loop_spells : {S : Type 0} → (S → TokenKind → Bool) → (S → Form S) →
     ℕ → S → Input → S → Input → Type 0
 loop_spells begin step zero s p last q = (is_next (begin s) p ≡ false) × (s ≡ last) × (p ≡ q)
@@ -198,7 +198,7 @@ loop_spells {S = S} begin step (suc n) s p last q =
     × ((mid : S) × (behind : Input)
     × (step s).spells p mid behind × loop_spells begin step n mid behind last q)
 
--- so many turns, and then nothing or a part of another one
+-- the tokens are so many turns, and then nothing or a part of another one
 abbrev pub loop_cut : {S : Type 0} → (S → TokenKind → Bool) → (S → Form S) → ℕ → S → Input → Type 0
 loop_cut begin step zero s p = (p.rest ≡ []) ⊎ ((is_next (begin s) p ≡ true) × (step s).cut p)
 loop_cut {S = S} begin step (suc n) s p =
@@ -235,7 +235,7 @@ abbrev pub chosen : {A : Type 0} → Bool → Form A → Form A → Form A
 chosen true there other = there
 chosen false there other = other
 
--- where the next token is one of these
+-- the one form, where the next token is one of these, or else the other
 abbrev pub where_next : {A : Type 0} → (TokenKind → Bool) → Form A → Form A → Form A
 where_next begin there other = by (λ kind. chosen (begins_by begin kind) there other)
 

@@ -20,11 +20,11 @@ pub record IsFirstFault {A : Type 0} (f : Form A) (p : Input) (rest : List Token
   -- with one token more they aren't
   pub at_it : (t : Token) (more : List Token) → rest ≡ t ∷ more → f.cut (at (used ++ t ∷ []) p) → ⊥
 
--- before all these tokens, with no fault
+-- the input before all these tokens, with no fault
 abbrev pub start : List Token → Input
 start tokens = record { rest = tokens; taken = 0; fault = None }
 
--- after so many of these tokens, with no fault
+-- the input after so many of these tokens, with no fault
 abbrev pub start_at : ℕ → List Token → Input
 start_at from tokens = record { rest = drop from tokens; taken = from; fault = None }
 
@@ -73,7 +73,7 @@ Deeper bound (Stop why rest) more =
     (more ≡ Stop why rest)
     ⊎ ((why ≡ bound.why) × (length (left more) + bound.gains ≤ length rest))
 
--- at each input the second form only adds to what the first does
+-- the second form only adds to what the first does, at each input
 abbrev pub OnlyAdds : {A : Type 0} → Bound → Form A → Form A → Type 0
 OnlyAdds bound f g = (p : Input) → Deeper bound (f.reads p) (g.reads p)
 

@@ -64,7 +64,7 @@ pub record IsSummary (never_first : Chooser → Bool) (program : Program) (summa
 
 -- The limit.
 
--- so many distinct ranges the PERFORM statements of the text name, main included
+-- the PERFORM statements of the text name so many distinct ranges, main included
 abbrev pub NamesSoMany : tree.Program → ℕ → Type 0
 NamesSoMany program counted = (ranges : List Range) × AreRangesOf program ranges
     × (length ranges ≡ counted)

@@ -45,7 +45,7 @@ pub record TellsLevel (table : Table) (returns : List Bool) (range : Range) (cal
   -- the paragraphs are those of which one of them is the end
   pub ends_are : (paragraph : ℕ) → IsEnded table range places paragraph ↔ Holds ends paragraph
 
--- of each range of the table, by its number
+-- these are the levels of the ranges of the table, by their numbers
 pub record TellsLevels (table : Table) (returns : List Bool) (levels : List RangeFacts) : Type 0
   where
     pub size : length levels ≡ length table.ranges
@@ -134,7 +134,7 @@ abbrev pub RangesRise : List Range → Type 0
 RangesRise ranges = (number : ℕ) (range next : Range) → slice_get ranges number ≡ Some range →
     slice_get ranges (suc number) ≡ Some next → is_before range next ≡ true
 
--- it is the summary of each program of which this is a table
+-- the summary is that of each program of which this is a table
 abbrev pub SummarisesTable : Table → Summary → Type 0
 SummarisesTable table summary = (never_first : Chooser → Bool) (program : Program)
     (points : ℕ → Point) → IsTable never_first program table points →

@@ -15,7 +15,7 @@ use Rattle.picture_data.specs.declared.reading.Reading.{Reading}
 use Rattle.picture_data.specs.Fault.{fault_at}
 use Rattle.picture_data.specs.Symbols.{symbol_s, symbol_v, symbol_9, symbol_a, symbol_x, behind, added, too_many, picture}
 
--- before the first byte
+-- the picture before the first byte
 abbrev pub start : Reading
 start = record {
   symbols = record { shape = shapes.Start; whole = 0; part = 0 };
@@ -70,7 +70,7 @@ in_count count byte reading =
     if nat_le digit_0 byte && nat_le byte digit_9 then digit count (byte - digit_0) reading else
     if byte == right_parenthesis then closed count reading else Err (flaw_of byte)
 
--- after one byte more, by where it is
+-- the picture after one byte more, by where it is
 abbrev pub step_by : SymbolPosition → ℕ → Reading → Result Reading Flaw
 step_by places.Open byte reading = symbol byte reading
 step_by places.Behind byte reading =
@@ -78,7 +78,7 @@ step_by places.Behind byte reading =
     else symbol byte reading
 step_by (places.Count count) byte reading = in_count count byte reading
 
--- after one byte more, its letter in capitals
+-- the picture after one byte more, its letter in capitals
 unfoldable pub step : ℕ → Reading → Result Reading Flaw
 step byte reading = step_by reading.place byte reading
 

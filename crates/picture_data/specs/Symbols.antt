@@ -76,7 +76,7 @@ behind symbol shape =
 
 -- ---- how many there are
 
--- they are a number with a sign or a decimal point
+-- the symbols are a number with a sign or a decimal point
 abbrev pub is_number : Shape → Bool
 is_number shapes.Signed = true
 is_number (shapes.Point signed) = true

@@ -20,6 +20,6 @@ abbrev pub counted_on : AddedCounts → List Added → AddedCounts
 counted_on counted [] = counted
 counted_on counted (kind ∷ kinds) = counted_on (with_one counted kind) kinds
 
--- so often each kind is in the list
+-- how often each kind is in the list
 abbrev pub counts_of : List Added → AddedCounts
 counts_of kinds = counted_on none_added kinds

@@ -16,7 +16,7 @@ placed_to entry (Some exit) place = record { entry = entry; exit = exit; place =
 abbrev pub place_at : Range → ℕ → List ProcedurePlace
 place_at range place = placed_to range.entry range.exit place
 
--- of these ranges, the first of which has this place
+-- the places of these ranges, the first of which has this place
 abbrev pub places_from : ℕ → List Range → List ProcedurePlace
 places_from place [] = []
 places_from place (range ∷ ranges) = place_at range place ++ places_from (suc place) ranges

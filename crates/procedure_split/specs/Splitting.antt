@@ -20,7 +20,7 @@ use Rattle.procedure_split.specs.Rows.{rows_of}
 use Rattle.procedure_split.specs.Writing.{IsWrittenFrom}
 use Rattle.procedure_split.specs.declared.writing.Split.{Split}
 
--- which ranges return, and the order in which they come
+-- how a program is planned: which ranges return, and the order in which they come
 pub record Planned (program : Program) (summary : Summary) : Type 0 where
   -- the exits of the ranges that return, by their entries
   pub returning : List (List ℕ)
@@ -34,7 +34,8 @@ abbrev pub AreGraphs : (program : Program) (summary : Summary) → Planned progr
 AreGraphs program summary plan graphs =
     AreLowered (flow_facts_of program.files plan.returning) (control_of program) plan.order graphs
 
--- which are shaped, and it is written of what they are shaped to
+-- the program is split into the other: the graphs of its ranges are shaped, and it is written of
+-- what they are shaped to
 pub record IsSplit (program : Program) (summary : Summary) (made : Program) : Type 0 where
   pub plan : Planned program summary
   pub graphs : List Graph
@@ -47,7 +48,8 @@ pub record IsSplit (program : Program) (summary : Summary) (made : Program) : Ty
   -- the result is written of these
   pub written : IsWrittenFrom program plan.order closed made
 
--- and so many items of each kind are added, for the cells of what they are shaped to
+-- the program is split so, and so many items of each kind are added, for the cells of what the
+-- graphs are shaped to
 pub record IsSplitWith (program : Program) (summary : Summary) (split : Split) : Type 0 where
   -- the program is split into the result
   pub is : IsSplit program summary split.program

@@ -28,7 +28,7 @@ with_parts program entries paragraphs = record {
   paragraphs = paragraphs;
 }
 
--- with these paragraphs, and entries for these items, which are counted
+-- the program with these paragraphs, and entries for these items, which are counted
 abbrev pub split_of : Program → List AddedItem → List Paragraph → Split
 split_of program items paragraphs = record {
   program = with_parts program (program.entries ++ entries_of (map seen_item items)) paragraphs;
@@ -40,8 +40,8 @@ abbrev pub added_entries : Program → List Range → List Closed → List CellE
 added_entries program order closed =
     entries_for (table_of (program_words program)) (rows_of order closed)
 
--- its entries follow the program's own, and its paragraphs are those of the ranges, by the
--- items of their cells and the places of all procedures
+-- the program that is made has its entries after the program's own, and its paragraphs are those of
+-- the ranges, by the items of their cells and the places of all procedures
 pub record IsWrittenFrom (program : Program) (order : List Range) (closed : List Closed)
     (made : Program) : Type 0 where
   pub name : made.name ≡ program.name
@@ -63,7 +63,7 @@ pub record IsWrittenFrom (program : Program) (order : List Range) (closed : List
   pub paragraphs :
       AreParagraphsOf order closed cells places (names_of program order) made.paragraphs
 
--- and so many items of each kind are added: one for each entry
+-- the program is written so, and so many items of each kind are added: one for each entry
 pub record IsWrittenWith (program : Program) (order : List Range) (closed : List Closed)
     (split : Split) : Type 0 where
   -- the result is written so

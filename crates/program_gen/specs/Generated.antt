@@ -80,7 +80,8 @@ paragraph name sentences = record { name = Some name; section = None; sentences 
 abbrev pub group_word : (group number : ℕ) → List ℕ
 group_word group number = codes "G-" ++ decimal group ++ codes "-" ++ decimal number
 
--- it counts, and while the counter is below ten times the group it goes to what x picks
+-- the paragraph that counts, and goes to what x picks while the counter is below ten times the
+-- group
 abbrev pub jumping : (group number x : ℕ) → Paragraph
 jumping group number x =
     paragraph (group_word group number)
@@ -96,7 +97,7 @@ group_of group x =
     jumping group 1 (next_of x) ∷ jumping group 2 (next_of (next_of x))
     ∷ jumping group 3 (next_of (next_of (next_of x))) ∷ leaving group ∷ []
 
--- so many groups, from this one on; x is the last number that was used
+-- the paragraphs of so many groups, from this one on; x is the last number that was used
 abbrev pub groups_of : (count group x : ℕ) → List Paragraph
 groups_of zero group x = []
 groups_of (suc count) group x =
@@ -108,12 +109,12 @@ groups_of (suc count) group x =
 abbrev pub perform_group : ℕ → Stmt
 perform_group group = Perform (4 * group - 3) (4 * group) Once
 
--- of so many groups, from this one on
+-- the sentences that perform so many groups, from this one on
 abbrev pub performs_of : (count group : ℕ) → List Sentence
 performs_of zero group = []
 performs_of (suc count) group = sentence (perform_group group) ∷ performs_of count (suc group)
 
--- it performs each group, shows the counter and stops
+-- the paragraph that performs each group, shows the counter and stops
 abbrev pub main_of : ℕ → Paragraph
 main_of n =
     paragraph (codes "M")

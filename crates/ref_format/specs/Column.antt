@@ -48,11 +48,11 @@ is_blank bytes = list_all (λ b. b == space) bytes
 abbrev pub has_control : List ℕ → Bool
 has_control bytes = list_any (λ b. nat_lt b space) bytes
 
--- from the first byte that is no space on
+-- the bytes from the first one on that is no space
 abbrev pub unspaced : List ℕ → List ℕ
 unspaced [] = []
 unspaced (b ∷ bs) = if b == space then unspaced bs else b ∷ bs
 
--- with spaces up to so many bytes
+-- the bytes with spaces after them, up to so many
 abbrev pub filled : ℕ → List ℕ → List ℕ
 filled width text = text ++ replicate (width - length text) space

@@ -53,8 +53,8 @@ entry_goes_on card = is_comment card || is_blank (columns 8 11 card)
 abbrev pub begins_entry : List (List ℕ) → List ℕ → Bool
 begins_entry before card = is_comment_header card && not (list_any is_division before)
 
--- of the lines up to one, the last first: that one belongs to a comment entry, which it begins or
--- which goes on over it
+-- the first of these lines, the last first, belongs to a comment entry, which it begins or which
+-- goes on over it
 abbrev pub in_entry : List (List ℕ) → Bool
 in_entry [] = false
 in_entry (card ∷ before) = begins_entry before card || (entry_goes_on card && in_entry before)

@@ -32,7 +32,7 @@ ArmTargetsIn arms set = (l : Label) → is_above (arms_leaves_to l arms) ≡ tru
 abbrev pub Grows : BTreeSet ℕ → BTreeSet ℕ → Type 0
 Grows old new = (l : Label) → contains nat_cmp old l ≡ true → contains nat_cmp new l ≡ true
 
--- it has the label, and what it had
+-- the set has the label, and what it had
 abbrev pub Enters : Label → BTreeSet ℕ → BTreeSet ℕ → Type 0
 Enters label old new = Grows old new × (contains nat_cmp new label ≡ true)
 
@@ -58,7 +58,7 @@ pub record Holds (graph : Graph) (to_loop to_inline to_exit : BTreeSet ℕ) : Ty
   -- Exits applies only on labels of this set
   pub exits : AllIn (may_exit graph) to_exit
 
--- so it is but for this label
+-- the same holds, but for this label
 pub record HoldsBut (label : Label) (graph : Graph) (to_loop to_inline to_exit : BTreeSet ℕ)
     : Type 0 where
   -- every other tree is joined

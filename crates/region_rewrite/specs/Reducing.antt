@@ -13,6 +13,6 @@ graph_in state = seen_work state.work
 abbrev pub StateHolds : Reducing → Type 0
 StateHolds state = Holds (graph_in state) state.loops state.inlines state.exits
 
--- so it is but for this label
+-- the sets of the state hold so, but for this label
 abbrev pub StateHoldsBut : Label → Reducing → Type 0
 StateHoldsBut label state = HoldsBut label (graph_in state) state.loops state.inlines state.exits

@@ -36,7 +36,7 @@ abbrev pub IsResult : List ℕ → Texts → Type 0
 IsResult bytes texts =
     (done : Done) × IsRestructured bytes done × (texts ≡ text_alone done.text)
 
--- and the lines of its report after it
+-- the text of the result, and the lines of its report after it
 abbrev pub IsResultAndReport : List ℕ → Texts → Type 0
 IsResultAndReport bytes texts = (done : Done) × IsRestructured bytes done
     × (texts ≡ with_report done.text (report_text done.report))

@@ -52,7 +52,7 @@ abbrev pub AreAlike : Answer → Answer → Type 0
 AreAlike one other = (one ≡ other) ⊎ ((program : Program) × (first : Trail) × (second : Trail)
     × (one ≡ trail_answer program first) × (other ≡ trail_answer program second))
 
--- at most one answer is due to an ask and bytes, but for the trail of a program
+-- no two answers are due to an ask and bytes, but for the trail of a program
 abbrev pub OneAnswerIsDue : Type 0
 OneAnswerIsDue =
     (ask : Option Ask) (bytes : List ℕ) (one other : Answer) →
@@ -98,14 +98,14 @@ FaultySourceIsRefused =
     IsFaultySource bytes program →
     IsOneOf (status.Flow ∷ status.ReadFault ∷ status.NoMemory ∷ []) answer
 
--- and with FLOW no other one ends
+-- only a program with a fault of flow ends with FLOW
 abbrev pub RefusedForFlowIsFaulty : Type 0
 RefusedForFlowIsFaulty =
     (ask : Ask) (source : SourceCall) (out notes : SinkCall) → IsOfSource ask →
     Ends (Some ask) source out notes status.Flow →
     (bytes : List ℕ) → source.told ≡ Some bytes → (program : Program) × IsFaultySource bytes program
 
--- at most one end of a run is due to bytes and a number of steps
+-- no two ends of a run are due to bytes and a number of steps
 abbrev pub OneRunIsDue : Type 0
 OneRunIsDue =
     (steps : ℕ) (bytes : List ℕ) (one other : Option Refusal) →
@@ -128,7 +128,7 @@ DueRunComes =
     (bytes : List ℕ) (due : Option Refusal) → source.told ≡ Some bytes →
     IsRunDue steps bytes due → IsOneOf (statuses_of_run due) answer
 
--- and over files
+-- no two ends of a run are due to bytes, files and a number of steps
 abbrev pub OneRunIsDueOnFiles : Type 0
 OneRunIsDueOnFiles =
     (steps : ℕ) (bytes : List ℕ) (files : Files) (one other : Option Refusal) →
@@ -149,7 +149,7 @@ DueRunComesOnFiles =
     ((program : Program) → Reads bytes program → TellFiles program (take left old) files) →
     IsRunDueOnFiles steps bytes files due → IsOneOf (statuses_over due) answer
 
--- without an ask a call ends with USAGE or out of memory
+-- a call without an ask ends with USAGE or out of memory
 abbrev pub UsageComes : Type 0
 UsageComes =
     (source : SourceCall) (out notes : SinkCall) (answer : Status) →
@@ -162,7 +162,7 @@ GeneratedComes =
     Ends (Some (Generate n)) source out notes answer →
     IsOneOf (status.Done ∷ status.WriteFault ∷ status.NoMemory ∷ []) answer
 
--- of bytes within the limit nothing is left
+-- nothing is left of bytes within the limit
 abbrev pub WithinLimitAllIsRead : Type 0
 WithinLimitAllIsRead =
     (bytes : List ℕ) → length bytes ≤ max_source →

@@ -4,7 +4,7 @@ use Rattle.cob_base.specs.Faults.{Rose}
 use Rattle.cob_base.specs.Source.{SourceCall}
 use Rattle.cob_base.specs.Limit.{max_source}
 
--- these are the bytes, where the source tells them
+-- the source tells these bytes, if it tells them
 abbrev pub Tells : Option (List ℕ) → List ℕ → Type 0
 Tells None bytes = Unit {0}
 Tells (Some told) bytes = told ≡ bytes

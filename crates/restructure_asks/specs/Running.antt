@@ -66,7 +66,7 @@ pub record StandsSo (bytes : List ℕ) (steps : ℕ) (program : Program)
   -- over any files its run stands so
   pub stands : (files : Files) → (source_run program files steps).standing ≡ standing files
 
--- it came to this end within so many steps
+-- the run came to this end within so many steps
 abbrev pub EndsAs : List ℕ → ℕ → Program → Ending → Type 0
 EndsAs bytes steps program ending =
     StandsSo bytes steps program (λ files. Over (ending_seen ending files))
@@ -91,7 +91,7 @@ pub record StandsOnFiles (bytes : List ℕ) (steps : ℕ) (files : Files) (progr
   -- over these files its run stands so
   pub stands : (source_run program files steps).standing ≡ standing
 
--- over these files it came to this end within so many steps, and left some files
+-- the run came to this end over these files within so many steps, and left some files
 abbrev pub EndsOnFiles : List ℕ → ℕ → Files → Program → Ending → Type 0
 EndsOnFiles bytes steps files program ending = (left : Files)
     × StandsOnFiles bytes steps files program (Over (ending_seen ending left))

@@ -11,7 +11,7 @@ use Rattle.overlap_trail.specs.finding.Finding.{IsFound}
 use Rattle.restructure_core.specs.declared.fault.Refused.{Refused}
 use Rattle.restructure_core.specs.declared.fault.Refused.TheVariants as refused
 
--- its PERFORM statements name more distinct ranges than there may be
+-- the PERFORM statements of the program name more distinct ranges than there may be
 abbrev pub PassesRanges : Program → Limit → Type 0
 PassesRanges program limit = IsPast program (split.Limit limit)
 

@@ -27,7 +27,7 @@ abbrev pub IsFlowOf : Program → Flow → Type 0
 IsFlowOf program (flow.Clear summary) = IsClear program summary
 IsFlowOf program (flow.Faulty trail) = IsFaultyBy program trail
 
--- by its summary the program is split into this one, with items that are counted
+-- the program is split into this one by its summary, with items that are counted
 pub record IsMadeOf (program : Program) (made : Split) : Type 0 where
   -- what each range does
   pub summary : Summary
@@ -36,7 +36,7 @@ pub record IsMadeOf (program : Program) (made : Split) : Type 0 where
   -- by it the program is split so
   pub split : IsSplitWith program summary made
 
--- by its summary it passes a limit before it is split
+-- the program passes a limit before it is split, by its summary
 pub record PassesBefore (program : Program) (limit : Limit) : Type 0 where
   -- what each range does
   pub summary : Summary

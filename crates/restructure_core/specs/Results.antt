@@ -7,7 +7,7 @@ use Rattle.procedure_split.specs.declared.writing.Split.{Split}
 use Rattle.restructure_core.specs.Limit.{result_limit}
 use Rattle.restructure_core.specs.Made.{IsMadeOf}
 
--- of a program that is read
+-- what is printed of the result of a program that is read is read as that very result
 abbrev pub ResultsReadBack : Type 0
 ResultsReadBack =
     (bytes : List ℕ) (program : Program) (made : Split) → Reads bytes program →

@@ -58,7 +58,7 @@ module _ (telling : LoweringContext) (leaving : EscapeTargets) where
       lower.build (flow_facts_by telling) s.place_of (seen_stmts s.last stmts) place s.theirs
       (seen_target after) (lower.end_alone (seen_target after))
 
-  -- of one that may be missing
+  -- the tree of an arm that may be missing
   abbrev pub phrase_tree : Setting telling leaving → Option (List Stmt) → ℕ → JumpTarget →
       graph.Tree
   phrase_tree s None place after = lower.end_alone (seen_target after)
@@ -82,7 +82,7 @@ module _ (telling : LoweringContext) (leaving : EscapeTargets) where
       ≡ lower.build_arms (flow_facts_by telling) s.place_of is_dead (arms s.last) place s.theirs
       (seen_target after)
 
-  -- and the choice among them
+  -- the end is the choice among these arms
   abbrev pub IsChoice : language.Picker → Bool → (ℕ → language.Arms) → ℕ → JumpTarget → End → Type 0
   IsChoice picker is_dead arms place after made =
       (s : Setting telling leaving) →

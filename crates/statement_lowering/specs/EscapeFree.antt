@@ -23,7 +23,7 @@ kind_by told (language.Do act) = if skips told act then kind.Nothing else kind.S
 kind_by told language.StopRun = kind.Stops
 kind_by told _ = kind.Stands
 
--- whatever lowering knows, and in whatever section
+-- this is the kind of the statement, whatever lowering knows, and in whatever section
 abbrev pub IsKind : Stmt → StmtKind → Type 0
 IsKind stmt found =
     (files : List FileEntry) (returning : List (List ℕ)) (last : ℕ) →

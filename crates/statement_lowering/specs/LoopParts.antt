@@ -39,7 +39,7 @@ loop_at told place_of true control body place leaving after =
 loop_at told place_of false control body place leaving after = third_by control place after
 
 module _ (telling : LoweringContext) (leaving : EscapeTargets) where
-  -- it is the tree of a whole turn
+  -- the tree is that of a whole turn
   abbrev pub IsTurn : Control → List Stmt → ℕ → JumpTarget → code.Tree → Type 0
   IsTurn control turns place after made =
       (s : Setting telling leaving) →
@@ -49,7 +49,7 @@ module _ (telling : LoweringContext) (leaving : EscapeTargets) where
       place
       s.theirs (seen_target after))
 
-  -- it is the tree at a loop's label
+  -- the tree is that at a loop's label
   abbrev pub IsLoopTree : Bool → Control → List Stmt → ℕ → JumpTarget → code.Tree → Type 0
   IsLoopTree is_head control turns place after made =
       (s : Setting telling leaving) →

@@ -49,8 +49,8 @@ pub record Setting (telling : LoweringContext) (leaving : EscapeTargets) : Type 
   -- the section is left so
   pub leaves : AreEscapeTargets leaving last theirs
 
--- from one body to another, towards what follows: the tree, where it ends by itself; else
--- what is after, further on
+-- one body goes on as the other towards what follows: the tree, where it ends by itself; else what
+-- is after, further on
 abbrev pub Along : Option End → Stmts → Stmts → (graph.Tree → graph.Tree) → Type 0
 Along None old new made = (behind : graph.Tree) → before old (made behind) ≡ before new behind
 Along (Some end) old new made =
@@ -74,7 +74,7 @@ RunsBy telling leaving stmt place after end old new =
     Along end (seen_body old) (seen_body new) (λ behind. lower.build_stmt (flow_facts_by telling)
     s.place_of (seen s.last stmt) place s.theirs (seen_target after) behind)
 
--- and then the continuation
+-- the tree is the body, then what these statements are built to, and then the continuation
 abbrev pub RunsTo : LoweringContext → EscapeTargets → List Stmt → ℕ → JumpTarget → List Piece →
     code.Tree → Type 0
 RunsTo telling leaving stmts place after body made =

@@ -38,27 +38,28 @@ arms_step arms = all_if arms.first && all_if arms.second
 abbrev pub when_step : When-F Bool Bool Bool → Bool
 when_step when = all when.stmts
 
--- of a statement in this one of so many paragraphs
+-- a statement nests in this paragraph, of so many: it has no jump, and each PERFORM in it names one
+-- later paragraph
 abbrev pub stmt_nests : ℕ → ℕ → Stmt → Bool
 stmt_nests count here = fold-Stmt Bool Bool Bool (nests_step count here) arms_step when_step
 
--- of a statement's arms
+-- the same of a statement's arms
 abbrev pub arms_nest : ℕ → ℕ → Arms → Bool
 arms_nest count here = fold-Arms Bool Bool Bool (nests_step count here) arms_step when_step
 
--- of a WHEN
+-- the same of a WHEN
 abbrev pub when_nests : ℕ → ℕ → When → Bool
 when_nests count here = fold-When Bool Bool Bool (nests_step count here) arms_step when_step
 
--- of these statements
+-- the same of these statements
 abbrev pub stmts_nest : ℕ → ℕ → List Stmt → Bool
 stmts_nest count here stmts = all (map (stmt_nests count here) stmts)
 
--- of these WHENs
+-- the same of these WHENs
 abbrev pub whens_nest : ℕ → ℕ → List When → Bool
 whens_nest count here whens = all (map (when_nests count here) whens)
 
--- one sentence
+-- the paragraph is one sentence, whose statements nest
 abbrev pub sentences_nest : ℕ → ℕ → List Sentence → Bool
 sentences_nest count here [] = false
 sentences_nest count here (sentence ∷ []) = stmts_nest count here sentence.stmts

@@ -7,7 +7,7 @@ use Rattle.branch_tree.specs.declared.tree.Tree as code
 use Rattle.tree_rules.specs.declared.putting.Substituted.{Substituted}
 use Rattle.tree_rules.specs.declared.putting.Substituted.TheVariants as placed
 
--- it is there; or it is given back, and nothing changed
+-- the tree has taken the place of the jumps to the label; or it is given back, and nothing changed
 abbrev pub Puts : Option code.Tree → Label → Tree → Tree → Tree → Type 0
 Puts None label by old new = new ≡ inlined label by old
 Puts (Some back) label by old new = (new ≡ old) × (seen_tree back ≡ by)

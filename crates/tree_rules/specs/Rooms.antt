@@ -10,7 +10,7 @@ abbrev pub all_true : List Bool → Bool
 all_true [] = true
 all_true (first ∷ others) = first && all_true others
 
--- of an end, where it is known whether there is room before it
+-- whether there is room at an end, where it is known whether there is room before it
 abbrev pub end_room_step : End-F (Bool → Bool) Bool Bool → Bool → Bool
 end_room_step (End-F.Pick by arms) room = room && all_true arms
 end_room_step (End-F.Jump to) room = true
@@ -22,7 +22,7 @@ end_room_step End-F.Dead room = true
 abbrev pub piece_room_step : Piece-F (Bool → Bool) Bool Bool → Bool
 piece_room_step piece = true
 
--- of a tree: its end, where it is known whether the body has room
+-- whether there is room in a tree: that at its end, where it is known whether the body has room
 abbrev pub tree_room_step : Tree-F (Bool → Bool) Bool Bool → Bool
 tree_room_step t = t.end (nat_lt (deque_len t.body) (deque_capacity t.body))
 

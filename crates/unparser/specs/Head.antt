@@ -24,7 +24,7 @@ abbrev pub display_tokens : Program → List Operand → (advance : Bool) → To
 display_tokens program items advance =
     kind.Word (codes "DISPLAY") ∷ operands_tokens program items ++ advance_tokens advance
 
--- these places
+-- the tokens of these places
 abbrev pub places_tokens : Program → List Place → Tokens
 places_tokens program places = joined (map (place_tokens program) places)
 
@@ -56,7 +56,7 @@ exit_perform_tokens cycle =
     kind.Word (codes "EXIT") ∷ kind.Word (codes "PERFORM")
     ∷ (if cycle then kind.Word (codes "CYCLE") ∷ [] else [])
 
--- of statements that leave what they are in, and of CONTINUE
+-- the first line of statements that leave what they are in, and of CONTINUE
 abbrev pub jump_head : {A B C : Type 0} → Program → Stmt-F A B C → Tokens
 jump_head program (Stmt-F.Go to) =
     kind.Word (codes "GO") ∷ kind.Word (codes "TO") ∷ label_tokens program to
@@ -71,7 +71,7 @@ jump_head program Stmt-F.ExitSection = kind.Word (codes "EXIT") ∷ kind.Word (c
 jump_head program (Stmt-F.ExitPerform cycle) = exit_perform_tokens cycle
 jump_head program _ = kind.Word (codes "CONTINUE") ∷ []
 
--- of statements on files
+-- the first line of statements on files
 abbrev pub file_head : {A B C : Type 0} → Program → Stmt-F A B C → Tokens
 file_head program (Stmt-F.Opens openings) =
     kind.Word (codes "OPEN") ∷ openings_tokens program None openings

@@ -145,6 +145,6 @@ expr_tokens program =
     fold-Expr (Bool → Tokens) Tokens Tokens Tokens Tokens expr_step operand_step
     (place_step program) sub_step window_step
 
--- these operands
+-- the tokens of these operands
 abbrev pub operands_tokens : Program → List Operand → Tokens
 operands_tokens program operands = joined (map (operand_tokens program) operands)

@@ -45,7 +45,7 @@ joined (part ∷ parts) = part ++ joined parts
 abbrev pub opened_by : (asked : Bool) → Tokens
 opened_by asked = if asked then kind.Mark left_parenthesis ∷ [] else []
 
--- its end, where one is asked for
+-- the end of a parenthesis where one is asked for
 abbrev pub closed_by : (asked : Bool) → Tokens
 closed_by asked = if asked then kind.Mark right_parenthesis ∷ [] else []
 
@@ -53,6 +53,6 @@ closed_by asked = if asked then kind.Mark right_parenthesis ∷ [] else []
 abbrev pub in_parentheses : Tokens → Tokens
 in_parentheses tokens = kind.Mark left_parenthesis ∷ tokens ++ kind.Mark right_parenthesis ∷ []
 
--- in parentheses where it is within another part
+-- the tokens in parentheses where they are within another part
 abbrev pub enclosed : (within : Bool) → Tokens → Tokens
 enclosed within tokens = opened_by within ++ tokens ++ closed_by within

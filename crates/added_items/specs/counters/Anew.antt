@@ -17,6 +17,6 @@ leaves_anew number (leaves.State cell labels) = leaves.State (number cell) label
 abbrev pub node_anew : (ℕ → ℕ) → Node → Node
 node_anew number node = record { label = node.label; tree = tree_anew number node.tree }
 
--- it stays, however cells are numbered
+-- the statement stays as it is, however cells are numbered
 abbrev pub NamesNoCell : Stmt → Type 0
 NamesNoCell stmt = (number : ℕ → ℕ) → stmt_anew number stmt ≡ stmt

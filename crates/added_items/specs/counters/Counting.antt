@@ -30,12 +30,12 @@ ended_cell Return = None
 ended_cell Stop = None
 ended_cell Dead = None
 
--- where the label is the head of the cell's loop
+-- the cell, where the label is the head of its loop
 abbrev pub if_head : Label → Option ℕ → Option ℕ
 if_head label None = None
 if_head label (Some cell) = if label == loop_head_label cell then Some cell else None
 
--- where it isn't below this one
+-- the cell, where it isn't below this one
 abbrev pub if_above : ℕ → Option ℕ → Option ℕ
 if_above least None = None
 if_above least (Some cell) = if nat_le least cell then Some cell else None
@@ -60,7 +60,7 @@ counters_from least (node ∷ nodes) = elim (counter_at least node) [
 abbrev pub counters_in : List Node → List ℕ
 counters_in nodes = counters_from 0 nodes
 
--- they rise, from this number on
+-- the cells rise, from this number on
 abbrev pub Rises : ℕ → List ℕ → Type 0
 Rises least [] = Unit {0}
 Rises least (cell ∷ cells) = (least ≤ cell) × Rises (cell + 1) cells

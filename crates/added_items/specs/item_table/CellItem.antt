@@ -46,7 +46,8 @@ StandOnce [] = Unit {0}
 StandOnce (one ∷ others) =
     (is_in one.range (map (λ (other : CellRange). other.range) others) ≡ false) × StandOnce others
 
--- as many as each range has cells, and by the table of cells, where no range comes twice
+-- these are the items of the cells of the ranges, by the table of cells: as many as each range has
+-- cells, where no range comes twice
 abbrev pub AreCellItems : ℕ → List CellRange → List (List CellItem) → Type 0
 AreCellItems first ranges lists = (length lists ≡ length ranges)
     × (StandOnce ranges → (at : ℕ) (one : CellRange) (items : List CellItem) →

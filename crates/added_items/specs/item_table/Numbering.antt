@@ -7,7 +7,7 @@ use Rattle.added_items.specs.item_table.Row.{CellRange, kinds_of_row}
 use Rattle.added_items.specs.item_table.Tables.{or_zero}
 use Rattle.added_items.specs.declared.item_table.numbering.CellNumbering.{CellNumbering}
 
--- its parts fit each other
+-- the parts of the numbering fit each other
 pub record IsWhole (numbering : CellNumbering) : Type 0 where
   pub few : length numbering.kinds < 2 ^ 32
   -- the first cell that never changes
@@ -22,7 +22,7 @@ abbrev pub number_at : CellNumbering → ℕ → ℕ
 number_at numbering place =
     or_zero (place_in numbering.holding.held (owner_of (map seen_added numbering.kinds) place))
 
--- it is that of these ranges
+-- the numbering is that of these ranges
 pub record IsNumbering (ranges : List CellRange) (numbering : CellNumbering) : Type 0 where
   -- its parts fit each other
   pub whole : IsWhole numbering

@@ -35,7 +35,7 @@ abbrev pub further : Option ℕ → Option ℕ
 further None = None
 further (Some place) = Some (suc place)
 
--- where the number is in the list, from 0
+-- the place of the number in the list, from 0, if it is there
 abbrev pub place_in : List ℕ → ℕ → Option ℕ
 place_in [] number = None
 place_in (first ∷ others) number =

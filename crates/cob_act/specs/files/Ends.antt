@@ -14,7 +14,7 @@ use Rattle.file_model.specs.operations.Falling.{AreShut, LeftOf, is_used, name_b
 use Rattle.cob_act.specs.declared.files.fault.FileFault.{FileFault}
 use Rattle.cob_act.specs.declared.files.fault.FileFault.TheVariants as faults
 
--- no statement on files shows bytes
+-- how a statement on files ends by this outcome; none shows bytes
 abbrev pub ended_as : ActOutcome → Ended
 ended_as Went = files.Went
 ended_as Shown = files.Went
@@ -41,7 +41,7 @@ BrokeOver fault files left left_now old new table =
     LeftOf (is_used (addresses_of files)) (gone_by fault left_now new) left left_now old new
     × AreShut (gone_by fault left_now new) (addresses_of files) table
 
--- where it was done no device failed
+-- no device failed where it was done, and else it broke off
 abbrev pub DoneOver : {A : Type 0} → Result A FileFault → List FileEntry → (left left_now : ℕ) →
     (old new : List Seen) → List FileRow → Type 0
 DoneOver (Ok a) files left left_now old new table =

@@ -118,7 +118,7 @@ abbrev pub kind_of : Referent → ValueKind
 kind_of (found.Item item kind dims) = item_kind kind
 kind_of _ = kinds.Unknown
 
--- it is the name of a level 88
+-- the kind is the name of a level 88
 abbrev pub is_condition : ValueKind → Bool
 is_condition kinds.Condition = true
 is_condition _ = false

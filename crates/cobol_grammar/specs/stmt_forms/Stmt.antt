@@ -85,7 +85,7 @@ unfoldable pub stmts_turn : {Side Known : Type 0} → Parts Side Known →
 stmts_turn parts level scope found =
     chosen found.1 (refuse Syntax) (stmt parts level scope found.0)
 
--- as many statements as there are, after those before
+-- any number of statements, after those before
 abbrev pub stmts_from : {Side Known : Type 0} → Parts Side Known →
     Level → Scope → Found → Form Found
 stmts_from parts level scope before = loop begins_stmt (stmts_turn parts level scope) before

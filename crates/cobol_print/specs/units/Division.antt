@@ -123,7 +123,7 @@ paragraph_units program paragraph =
     section_line paragraph.section ++ named_line paragraph.name
     ++ flat_map (sentence_units program) paragraph.sentences
 
--- these paragraphs
+-- the units of these paragraphs
 abbrev pub paragraphs_units : Program → List Paragraph → List PrintUnit
 paragraphs_units program paragraphs = flat_map (paragraph_units program) paragraphs
 

@@ -4,7 +4,7 @@ use Rattle.cobol_lex.specs.declared.token.TokenKind.TheVariants as kind
 use Rattle.unparser.specs.Token.{Tokens, procedure_token}
 use Rattle.cobol_print.specs.declared.units.unit.PrintUnit.{PrintUnit}
 
--- these tokens from this column on
+-- the unit of these tokens from this column on
 abbrev pub unit_at : (column : ℕ) → Tokens → PrintUnit
 unit_at column tokens = record { column = column; tokens = tokens }
 

@@ -21,7 +21,8 @@ use Rattle.cobol_run.specs.Machine.{ending_seen}
 use Rattle.cobol_run.specs.Over.{ComesTo}
 use Rattle.cobol_run.specs.Running.{displayed, RunsAs}
 
--- its nested statements end so within some units, and the sink gained what they display
+-- the nested statements of the program end so within some units, and the sink gained what they
+-- display
 abbrev pub EndsNested : Program → Files → SinkCall → Ending → Type 0
 EndsNested program files sink (ending.Faulted fault) = ⊥
 EndsNested program files sink how =
@@ -49,8 +50,8 @@ RunsShowNestedStatements =
 
 -- ---- over devices that tell their files
 
--- its nested statements end so and leave the files that the devices tell, but for those of these
--- names, which failed
+-- the nested statements of the program end so and leave the files that the devices tell, but for
+-- those of these names, which failed
 abbrev pub EndsNestedOver : Program → Files → SinkCall → List (List ℕ) → List Seen → Ending → Type 0
 EndsNestedOver program files sink gone devices (ending.Faulted fault) = ⊥
 EndsNestedOver program files sink gone devices how =

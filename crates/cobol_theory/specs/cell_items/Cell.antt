@@ -46,7 +46,7 @@ pub record IsCell (areas : List Area) (item root digits : ℕ) (signed : Bool) :
 abbrev pub cell_bytes : (digits : ℕ) → Bool → ℤ → List ℕ
 cell_bytes digits signed value = number_bytes signed Within digits value
 
--- its root holds that number
+-- the item's root holds that number
 abbrev pub Holds : Roots → (root digits : ℕ) → Bool → ℤ → Type 0
 Holds store root digits signed value =
     slice_get store root ≡ Some (cell_bytes digits signed value)

@@ -84,7 +84,7 @@ abbrev pub less_in : ℕ → ℤ → ℤ → ℤ
 less_in digits value taken =
     with_sign (value -ℤ taken) (unsigned_abs (value -ℤ taken) % 10 ^ digits)
 
--- the value has digits in front of so many that an item has
+-- the value has higher digits than those that are taken
 abbrev pub goes_past : ℕ → ℤ → ℤ → Bool
 goes_past digits value taken = nat_le (10 ^ digits) (unsigned_abs (value -ℤ taken))
 

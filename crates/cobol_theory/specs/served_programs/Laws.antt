@@ -16,7 +16,7 @@ use Rattle.program_facts.specs.whole_counts.Whole.{counts_whole}
 use Rattle.cobol_theory.specs.cobol_headline.Alike.{IsProper, Writing, naming_of, writable_of}
 use Rattle.cobol_theory.specs.fit_programs.Fit.{IsFit}
 
--- where it is empty, the first arm of a READ continues if the source has AT END, and else it goes
+-- an empty first arm of a READ continues if the source has AT END, and else it goes
 abbrev pub KeepsAtEnd : Writing → Type 0
 KeepsAtEnd writing = (range : Range) (file : ℕ) (into : Option Place) (has_end : Bool) →
     writing.empty range (By (Read file into has_end)) 0 ≡ (if has_end then Continues else Goes)

@@ -76,7 +76,7 @@ module _ (naming : Naming) (kinds : Writable) (told : FlowFacts) (range : Range)
     BodyIsServed (Nested stmts) = StmtsAreServed stmts
     BodyIsServed (Performed entry exit) = Unit {0}
 
-  -- one act that does nothing, which lowering leaves out
+  -- the sentence is one act that does nothing, which lowering leaves out
   abbrev pub IsIdle : Stmts → Type 0
   IsIdle sentence =
       (act : Act) × (sentence ≡ also (Do act) none) × (skips told act ≡ true)

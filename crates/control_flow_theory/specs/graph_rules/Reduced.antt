@@ -255,7 +255,7 @@ loop_step graph (Some label) = Some (close_graph label graph)
 abbrev pub rule_step : Graph → Option Graph
 rule_step graph = loop_step graph (lowest (loops graph) graph.nodes)
 
--- one step, where a rule applies
+-- the graph after one step, where a rule applies
 abbrev pub stepped : Graph → Option Graph → Graph
 stepped graph None = graph
 stepped graph (Some next) = next

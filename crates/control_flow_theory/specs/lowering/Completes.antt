@@ -9,7 +9,7 @@ is_after (Times amount) = false
 is_after (Until after test) = after
 is_after (Varying after set step test) = after
 
--- its chooser never gives the first arm
+-- what chooses is a chooser that never gives the first arm
 abbrev pub first_is_dead : FlowFacts → Picker → Bool
 first_is_dead told (If test) = false
 first_is_dead told (By chooser) = told.never_first chooser

@@ -87,7 +87,7 @@ rest_from told place (sentence ∷ sentences) =
     (Sent (leave_sentence (cuts told sentence)) (rest_from told (place + sizes sentence) sentences))
 
 module _ (told : FlowFacts) (place_of : ℕ → ℕ) where
-  -- its continuation, in a paragraph that is left so
+  -- the continuation of a rest, in a paragraph that is left so
   abbrev pub leaf_of : EscapeTargets → Rest → End
   leaf_of paragraph Over = paragraph.paragraph
   leaf_of paragraph (From place stmts others) =
@@ -97,7 +97,7 @@ module _ (told : FlowFacts) (place_of : ℕ → ℕ) where
       Jump (to_turn control reached place)
   leaf_of paragraph (Cut others) = leaf_of paragraph others
 
-  -- where what leaves it goes on
+  -- where what leaves a rest goes on
   abbrev pub leaving_of : EscapeTargets → Rest → EscapeTargets
   leaving_of paragraph rest = record {
     sentence = leaf_of paragraph (after_sentence rest);
@@ -107,7 +107,7 @@ module _ (told : FlowFacts) (place_of : ℕ → ℕ) where
     cycle = leaf_of paragraph (at_loop rest);
   }
 
-  -- its tree
+  -- the tree of a rest
   abbrev pub tree_of : EscapeTargets → Rest → Tree
   tree_of paragraph Over = end_alone paragraph.paragraph
   tree_of paragraph (From place stmts others) =

@@ -20,7 +20,7 @@ abbrev pub tree_count : Trees → ℕ
 tree_count no_more = 0
 tree_count (more first others) = suc (tree_count others)
 
--- as many arms as what chooses gives
+-- there are as many arms as what chooses gives; of a choice by a cell nothing is asked
 abbrev pub HasArms : FlowFacts → Picker → ℕ → Type 0
 HasArms told (If test) arms = arms ≡ 2
 HasArms told (By chooser) arms = told.width chooser ≡ arms

@@ -43,7 +43,7 @@ CalledByPaths told program order =
     (from : ℕ) × (caller : Range) × (from < number) × (slice_get order from ≡ Some caller)
     × IsCalled told program caller entry exit
 
--- each range of such an order is performed by a kept node of an earlier one
+-- each range of an order by flow paths is performed by a kept node of an earlier one
 abbrev pub OrderByPathsIsOfGraphs : Type 0
 OrderByPathsIsOfGraphs =
     (told : FlowFacts) (program : Program) (keep : Range → Label → Bool) (numbers : Range → ℕ → ℕ)

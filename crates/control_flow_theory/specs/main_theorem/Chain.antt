@@ -73,7 +73,7 @@ module _ (Reads Writes : ℕ → Type 0) where
   abbrev pub Anywhere : Range → Type 0
   Anywhere to = Unit {0}
 
-  -- no choice is by a cell
+  -- what chooses names only these cells, and is none itself
   abbrev pub PickerNames : Picker → Type 0
   PickerNames (If test) = fits.TestFits Anywhere Reads Writes test
   PickerNames (By chooser) = Unit {0}

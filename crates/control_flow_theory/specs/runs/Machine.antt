@@ -16,7 +16,7 @@ Reaches step from to = (n : ℕ) × (iterate step n from ≡ to)
 abbrev pub ReachesWithin : {State : Type 0} → ℕ → (State → State) → State → State → Type 0
 ReachesWithin most step from to = (n : ℕ) × (n ≤ most) × (iterate step n from ≡ to)
 
--- its step, what a state has shown, and where it begins
+-- a machine: its step, what a state has shown, and where it begins
 pub record Machine (World Event End State : Type 0) : Type 0 where
   pub step : State → State
   -- what a state has shown, and how its run stands

@@ -11,7 +11,7 @@ pub record Run (Event End : Type 0) : Type 0 where
   pub trace : List Event
   pub standing : Standing End
 
--- it came to its end
+-- the run came to its end
 abbrev pub IsOver : {Event End : Type 0} → Run Event End → Type 0
 IsOver run = run.standing ≢ Going
 

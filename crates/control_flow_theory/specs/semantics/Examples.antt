@@ -22,7 +22,7 @@ say byte = act (says byte)
 abbrev pub one : Stmt → Stmts
 one stmt = also stmt none
 
--- where N is the number
+-- the condition that N is the number
 abbrev pub when : ℕ → Stmt → Stmt
 when number stmt = Choose (If (Holds (is number))) (given (one stmt) (missing done))
 

@@ -31,12 +31,12 @@ module _ {Memory Left : Type 0} (doing : Doing Memory) (left : Memory → Left) 
   behind shown (Went trace memory units) = Went (shown ++ trace) memory units
   behind shown (Stands trace standing) = Stands (shown ++ trace) standing
 
-  -- where the first went on, more is done
+  -- this, and then more, where it went on
   abbrev pub then_do : Outcome Memory Left → Does → Outcome Memory Left
   then_do (Went trace memory units) more = behind trace (more memory units)
   then_do (Stands trace standing) more = Stands trace standing
 
-  -- one after the other
+  -- one thing after the other
   abbrev pub one_then : Does → Does → Does
   one_then first second = λ memory units. then_do (first memory units) second
 

@@ -4,7 +4,7 @@ use Rattle.control_flow_theory.specs.runs.Run.{Going, Over, Begins}
 use Rattle.control_flow_theory.specs.runs.Tied.{Meaning}
 use Rattle.control_flow_theory.specs.semantics.Outcome.{Event, How, Ending, Stopped, Faulted, Returned, Lost, Run, Standing}
 
--- it goes on, or it stopped
+-- the run goes on, or it stopped
 abbrev pub EndsFairly : {Left : Type 0} → Standing Left → Type 0
 EndsFairly Going = Unit {0}
 EndsFairly (Over (Stopped how left)) = Unit {0}

@@ -53,7 +53,7 @@ abbrev pub reduced_by_all : ℕ → Graph → Graph
 reduced_by_all zero graph = graph
 reduced_by_all (suc most) graph = reduced_by_all most (stepped graph (any_step graph))
 
--- one node, which loops over a choice of those that are left by a new cell
+-- the graph with one node, which loops over a choice, by a new cell, of those that are left
 abbrev pub dispatch_graph : Graph → Graph
 dispatch_graph graph = record {
   entry = graph.entry;
@@ -65,7 +65,7 @@ dispatch_graph graph = record {
   added = graph.added ++ State ∷ [];
 }
 
--- where several nodes are left
+-- the graph with one dispatch, where several nodes are left
 abbrev pub dispatch_rest : Graph → Graph
 dispatch_rest graph = if is_above (size graph.nodes - 1) then dispatch_graph graph else graph
 

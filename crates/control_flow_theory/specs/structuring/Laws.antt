@@ -135,7 +135,7 @@ abbrev pub RulesEnd : Type 0
 RulesEnd = (graph : Graph) → any_step (reduced_by_all (3 * size graph.nodes) (shaped graph)) ≡ None
 
 module _ (Memory Left : Type 0) where
-  -- where a rule brought a cell
+  -- the walks of whole programs are tied where a rule brought a cell
   abbrev pub KeptMainsAreTied : Type 0
   KeptMainsAreTied =
       (acting : Acting Memory) (left : Memory → Left) (kinds more : Kinds) (g h : Family)

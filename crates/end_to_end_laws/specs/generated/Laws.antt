@@ -11,15 +11,16 @@ use Rattle.round_trip.specs.procedures.Outline.{HasProcedures}
 use Rattle.round_trip.specs.procedures.Told.{own_procedures}
 use Rattle.program_gen.specs.Generated.{counter_entry, generated}
 
--- they can be printed
+-- generated programs can be printed
 abbrev pub GeneratedProgramsArePrintable : Type 0
 GeneratedProgramsArePrintable = (n : ℕ) → n ≤ 1249 → IsPrintableProgram (generated n)
 
--- their names may be names, and their values are literals
+-- the names of generated programs may be names, and their values are literals
 abbrev pub GeneratedProgramsAreTitled : Type 0
 GeneratedProgramsAreTitled = (n : ℕ) → n ≤ 1249 → IsTitled (generated n)
 
--- no FD, and the counter in working storage
+-- generated programs keep the rules on entries, without an FD, and with the counter in working
+-- storage
 abbrev pub GeneratedProgramsKeepRules : Type 0
 GeneratedProgramsKeepRules = (n : ℕ) → KeepsRules (generated n) [] (counter_entry ∷ [])
 

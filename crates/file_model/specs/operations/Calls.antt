@@ -59,7 +59,7 @@ abbrev pub SameBut : Option Seen → Seen → Type 0
 SameBut None now = Unit {0}
 SameBut (Some device) now = SameDevice device now
 
--- at most the files of the first device of that name changed
+-- the files of the first device of that name changed at most
 pub record Kept (name : List ℕ) (left left_now : ℕ) (old new : List Seen) : Type 0 where
   pub device : Seen
   -- as many devices are on the bench

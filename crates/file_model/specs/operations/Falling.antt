@@ -22,7 +22,7 @@ is_among names name = list_any (λ (other : List ℕ). bytes_eq other name) name
 
 -- ---- devices of which none failed
 
--- one that was used changed at most by its files, and any other not at all
+-- a device that was used changed at most by its files, and any other not at all
 abbrev pub TouchedOne : Bool → Seen → Seen → Type 0
 TouchedOne true device now = SameDevice device now
 TouchedOne false device now = now ≡ device

@@ -22,7 +22,7 @@ abbrev mutual
   trees_size no_more = 0
   trees_size (more first others) = tree_size first + trees_size others
 
--- one for the label, and the statements of its tree
+-- how large a node is: one for the label, and the statements of its tree
 abbrev pub node_size : Node → ℕ
 node_size node = 1 + tree_size node.tree
 

@@ -82,7 +82,7 @@ IsNodeIn telling spots range label made =
     (program : Program) → IsTableOf telling spots program →
     seen_tree made ≡ node_in telling program range label
 
--- and at a label of the loop that a rest begins with
+-- it is the tree at a label of the loop that a rest begins with, whatever the program
 abbrev pub IsTurnIn : LoweringContext → Continuation → code.Range → ℕ → Bool → tree.Tree → Type 0
 IsTurnIn telling spot range place is_head made =
     (program : Program) (placed : IsPlaced telling program) →
@@ -104,7 +104,8 @@ pub record GoAlike (range other : code.Range) (onward : Successors) : Type 0 whe
   -- and so at the end of its section's last paragraph
   pub last : returns_at range.exit onward.last ≡ returns_at other.exit onward.last
 
--- from the rest at a place, and from all that the tree may go on at after it
+-- the two ranges go on alike from the rest at a place, and from all that the tree may go on at
+-- after it
 pub record GoAlikeFrom (spots : List Continuation) (range other : code.Range) (place : ℕ) : Type 0
   where
     -- the places from which both go on alike

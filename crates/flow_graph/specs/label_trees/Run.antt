@@ -25,7 +25,7 @@ IsStraightRunIn telling spots range place run = (program : Program) →
     RunsOn (node_in telling program range) (seen_tree run.tree) run.next
     (node_in telling program range (point place))
 
--- in each range that goes on alike from there
+-- it is that run in each range that goes on alike from there
 abbrev pub IsStraightRunAlike : LoweringContext → List Continuation → code.Range → ℕ → StraightRun →
     Type 0
 IsStraightRunAlike telling spots range place run = (other : code.Range) (spot : Continuation) →

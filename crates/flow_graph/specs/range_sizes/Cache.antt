@@ -68,7 +68,7 @@ pub record IsKnown (telling : LoweringContext) (spots : List Continuation)
   -- parts are shared only where all rests go on within their sections
   pub shared : known.shared ≡ true → AllGoWithin spots
 
--- whatever lowering knows
+-- what is kept is right, whatever lowering knows
 abbrev pub IsKnownAnyhow : List Continuation → TreeSizeCache → Type 0
 IsKnownAnyhow spots known = (telling : LoweringContext) → IsKnown telling spots known
 

@@ -28,16 +28,16 @@ abbrev pub stands_within : Successors → Successors → Bool
 stands_within onward behind =
     if behind.paragraph == onward.paragraph then behind.last == onward.last else false
 
--- so does this rest, if there is one
+-- a rest, if there is one, is in the paragraph and section of the other
 abbrev pub found_within : Successors → Option Continuation → Bool
 found_within onward None = true
 found_within onward (Some spot) = stands_within onward spot.onward
 
--- so does the rest at a place, where there is one
+-- the rest at a place, if there is one, is in the paragraph and section of the other
 abbrev pub goes_within : List Continuation → Successors → ℕ → Bool
 goes_within spots onward next = found_within onward (slice_get spots next)
 
--- so do all at which trees go on
+-- each rest at which a tree goes on is in the paragraph and section of the one before it
 abbrev pub AllGoWithin : List Continuation → Type 0
 AllGoWithin spots = (at next : ℕ) (spot : Continuation) → slice_get spots at ≡ Some spot →
     spot.onward.behind ≡ Some next → goes_within spots spot.onward next ≡ true

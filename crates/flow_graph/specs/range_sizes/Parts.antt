@@ -12,7 +12,7 @@ use Rattle.statement_lowering.specs.declared.continuations.continuation.Continua
 use Rattle.flow_graph.specs.range_sizes.Exits.{GoesSo}
 use Rattle.flow_graph.specs.declared.range_sizes.exits.Passing.{Passing}
 
--- so many statements this tree has, and to these labels it jumps
+-- the tree has so many statements, and jumps to these labels
 pub record IsPartOf (tree : graph.Tree) (count : ℕ) (jumps : List ℕ) : Type 0 where
   -- the count is of the tree's statements, as far as it goes
   pub size : count ≡ min (tree_size tree) (2 ^ 64 - 1)
@@ -21,13 +21,13 @@ pub record IsPartOf (tree : graph.Tree) (count : ℕ) (jumps : List ℕ) : Type 
   -- and to no other
   pub all : (label : ℕ) → JumpsTo label (graph.end_of tree) → Holds jumps label
 
--- so does the tree at a label, whatever the program
+-- the tree at a label has so many statements, and jumps to these labels, whatever the program
 abbrev pub IsPartIn : LoweringContext → List Continuation → code.Range → ℕ → ℕ → List ℕ → Type 0
 IsPartIn telling spots range label count jumps =
     (program : Program) → IsTableOf telling spots program →
     IsPartOf (node_in telling program range label) count jumps
 
--- in each range that goes on so from there
+-- the same in each range that goes on so from there
 abbrev pub IsPartBy : LoweringContext → List Continuation → ℕ → Passing → ℕ → List ℕ → Type 0
 IsPartBy telling spots label passing count jumps =
     (range : code.Range) → GoesSo spots range (label / 3) passing →

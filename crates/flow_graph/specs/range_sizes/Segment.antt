@@ -47,7 +47,7 @@ LeadsTo telling spots passing place (stretch ∷ others) here =
     (next : ℕ) × (stretch.place ≡ place) × IsSegment telling spots passing stretch next
     × LeadsTo telling spots passing next others here
 
--- to one at which this is the part of the tree
+-- the segments lead to a place at which this is the part of the tree
 abbrev pub ComesToPart : LoweringContext → List Continuation → List Jumps → ℕ → Passing →
     List Segment → TreeCount →
     Type 0

@@ -15,13 +15,13 @@ use Rattle.statement_lowering.specs.LowerList.{flow_facts_by}
 use Rattle.statement_lowering.specs.declared.context.LoweringContext.{LoweringContext}
 use Rattle.statement_lowering.specs.declared.continuations.continuation.Continuation.{Continuation}
 
--- so large is the graph of exactly the nodes that are reached in a range
+-- the graph of exactly the nodes that are reached in a range is so large
 abbrev pub IsSizeOf : FlowFacts → Program → Range → ℕ → Type 0
 IsSizeOf told program range size =
     (keep : Label → Bool) × AreJustReached told program range keep
     × (size ≡ min (graph_size (lowered_graph told program range keep)) (2 ^ 64 - 1))
 
--- whatever the program
+-- the graph of the range is so large, whatever the program
 abbrev pub IsSizeIn : LoweringContext → List Continuation → code.Range → ℕ → Type 0
 IsSizeIn telling spots range size =
     (program : source.Program) → IsRangeIn telling spots range program →

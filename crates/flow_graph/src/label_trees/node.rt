@@ -58,7 +58,7 @@ fn point_tree(
         let leaving = leaving_of(&spot.onward, range, telling);
         let after = after_of(&spot.onward, range, telling);
         let context = RestContext {
-            telling,
+            telling: &*telling,
             leaving: &leaving,
             after: &after,
         };

@@ -35,7 +35,7 @@ IsDepending layout to after arms =
     seen_trees arms
     ≡ lower.depending (flow_facts_of files returning) place_of to (seen_target after)
 
--- and the choice by them
+-- the end is the choice by GO TO DEPENDING among these paragraphs
 abbrev pub IsDependingEnd : PlaceTable → List ℕ → Place → JumpTarget → End → Type 0
 IsDependingEnd layout to on after made =
     (files : List FileEntry) (returning : List (List ℕ)) (place_of : ℕ → ℕ) →

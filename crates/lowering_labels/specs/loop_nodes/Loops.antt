@@ -34,16 +34,16 @@ chosen_by (Some (Varying false set step test)) place turn after =
     by_test test (end_alone after) turn
 chosen_by (Some (Varying true set step test)) place turn after = turn
 
--- and by that of its body
+-- the tree at the head of a loop by its control and its body
 abbrev pub head_by : Option Control → ℕ → Tree → End → Tree
 head_by control place body after =
     chosen_by control place (before (turn_start control place) body) after
 
--- its step, and then its head
+-- the tree at a loop's step: the step, and then its head
 abbrev pub stepped : Act → ℕ → Tree
 stepped step place = tree (also (Do step) none) (Jump (loop_head_label place))
 
--- it has a label for its test after the body, or for its step
+-- the loop has a label for its test after the body, or for its step
 abbrev pub has_third : Control → Bool
 has_third (Times amount) = false
 has_third (Until after test) = after

@@ -19,12 +19,13 @@ range_by entry (Some exit) = Part entry exit
 abbrev pub seen_range : code.Range → Range
 seen_range range = range_by range.entry range.exit
 
--- before this place, or the run stops where there is none
+-- the target before this place, or the stop of the run where there is none
 abbrev pub fallen_to : Option ℕ → JumpTarget
 fallen_to None = leaf.Stop
 fallen_to (Some place) = leaf.Jump (point_of place)
 
--- after a paragraph that isn't the exit: before the next one, or there is none
+-- the target after a paragraph that isn't the exit: before the next one, or the stop where there is
+-- none
 abbrev pub fallen : List ℕ → ℕ → JumpTarget
 fallen places number = fallen_to (slice_get places (number + 1))
 

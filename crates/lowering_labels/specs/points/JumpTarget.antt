@@ -32,7 +32,7 @@ going_by told (language.Go to) = going.To to
 going_by told language.StopRun = going.Stops
 going_by told _ = going.Here
 
--- whatever lowering knows, and in whatever section
+-- this is how control goes on from the statement, whatever lowering knows, and in whatever section
 abbrev pub IsGoing : Stmt → Going → Type 0
 IsGoing stmt way =
     (files : List FileEntry) (returning : List (List ℕ)) (last : ℕ) →

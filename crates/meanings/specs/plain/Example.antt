@@ -42,6 +42,6 @@ RunsAs = (world : World) →
     × (structural nested world 3 ≡ record
     { trace = shown; standing = Over (Stopped Normally world.files) })
 
--- and so they do
+-- the proof that they do
 pub runs_as : RunsAs
 runs_as world = (refl, refl, refl, refl)

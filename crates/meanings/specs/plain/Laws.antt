@@ -14,11 +14,11 @@ use Rattle.meanings.specs.plain.Same.{IsMatchedBy, SameBehaviour}
 abbrev pub TheSourceGrows : Type 0
 TheSourceGrows = (program : Program) → Grows (source_machine program)
 
--- with more steps the source shows more
+-- the source shows more with more steps
 abbrev pub MoreStepsShowMore : Type 0
 MoreStepsShowMore = (program : Program) → Steady (meaning (source_machine program))
 
--- from the state the source comes to a state with this run, in at most so many steps
+-- the source comes from the state to one with this run, in at most so many steps
 abbrev pub RunsTo : Program → ℕ → SourceState → Run → Type 0
 RunsTo program most state run = (later : SourceState)
     × ReachesWithin most (source_step program) state later × (later.run ≡ run)
@@ -35,7 +35,7 @@ TheFirstStateRuns = (program : Program) (most : ℕ) (world : World) (run : Run)
     RunsTo program most (source_begun program world) run →
     ComesToWithin most (meaning (source_machine program)) world run
 
--- with more units nested statements show more
+-- nested statements show more with more units
 abbrev pub MoreUnitsShowMore : Type 0
 MoreUnitsShowMore = (program : Program) → Steady (structural program)
 

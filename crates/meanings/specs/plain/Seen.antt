@@ -52,15 +52,15 @@ event_bytes (Display bytes) = bytes
 abbrev pub bytes_shown : Trace → List ℕ
 bytes_shown trace = flat_map event_bytes trace
 
--- whatever the world, and whatever events showed what the first has shown, the source's step leads
--- from the first to the second, with events that showed what the second has shown
+-- the source's step leads from the first state to the second, whatever the world, and whatever
+-- events showed what the first has shown, with events that showed what the second has shown
 abbrev pub IsStep : tree.Program → PlainState → PlainState → Type 0
 IsStep program first second =
     (world : World) (trace : Trace) → bytes_shown trace ≡ first.shown →
     (later : Trace) × (bytes_shown later ≡ second.shown)
     × (source_step (seen program) (state_in world trace first) ≡ state_in world later second)
 
--- it stands where the source begins, in each world, and nothing was shown
+-- the state is where the source begins, in each world, and nothing was shown
 abbrev pub IsBegun : tree.Program → PlainState → Type 0
 IsBegun program state =
     (state.shown ≡ [])

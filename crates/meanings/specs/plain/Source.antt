@@ -51,7 +51,7 @@ comes_to ending state = record state
 abbrev pub stops : Stopping → SourceState → SourceState
 stops how state = comes_to (Stopped how state.world.files) state
 
--- at the beginning of the paragraph with this number
+-- the state at the beginning of the paragraph with this number
 abbrev pub goes_to : Program → ℕ → SourceState → SourceState
 goes_to program number state = record state { paragraph = number; rest = rest_of program number }
 

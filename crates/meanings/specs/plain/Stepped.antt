@@ -58,12 +58,12 @@ done state = record state { rest = drop 1 state.rest }
 abbrev pub over_by : Over → PlainState → PlainState
 over_by over state = record state { over = Some over }
 
--- at the beginning of the paragraph with this number
+-- the state at the beginning of the paragraph with this number
 abbrev pub gone : Program → ℕ → PlainState → PlainState
 gone program number state =
     record state { paragraph = number; rest = whole_rest program number }
 
--- at this rest of the entry, with the return to what follows the PERFORM pending
+-- the state at this rest of the entry, with the return to what follows the PERFORM pending
 abbrev pub entered : ℕ → ℕ → List Item → List Waiting → PlainState → PlainState
 entered entry exit rest others state = record state {
   paragraph = entry;
@@ -72,7 +72,7 @@ entered entry exit rest others state = record state {
       record { end = exit; paragraph = state.paragraph; rest = drop 1 state.rest } ∷ others;
 }
 
--- in the range; to perform one whose exit is pending already is a fault
+-- the state in the range; to perform one whose exit is pending already is a fault
 abbrev pub performed : Program → ℕ → ℕ → PlainState → PlainState
 performed program entry exit state =
     if is_pending exit state.pending then over_by (Fault (Reentry exit)) state

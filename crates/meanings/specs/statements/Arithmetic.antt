@@ -28,7 +28,7 @@ pub data Basis : Type 0 where
   Times : Value → Basis
   Over : Value → Basis
 
--- this of two values, where there are both
+-- what two values come to, where there are both
 abbrev pub both : (Dec → Dec → Value) → Value → Value → Value
 both does (Some a) (Some b) = does a b
 both does _ _ = None
@@ -79,7 +79,7 @@ basis_of memory (calcs.Compute expr) = and_then (expr_value expr memory) (λ val
 
 -- ---- receivers
 
--- to one decimal place more than the receiver has
+-- a / b, to one decimal place more than the receiver has
 abbrev pub divided : ℕ → Dec → Dec → Value
 divided part a b = if nat_le part 18 then quotient_of a b (part + 1) else None
 
@@ -121,7 +121,7 @@ part_of (forms.Number signed whole part sign) = part
 part_of forms.Group = 0
 part_of forms.Text = 0
 
--- one receiver is found, worked out for, and stored into; whether it had a size error
+-- one receiver after it is found, worked out for, and stored into; whether it had a size error
 abbrev pub targeted : List Area → Bool → Basis → Roots → Target → Outcome Bool
 targeted areas guarded basis store target =
     go_on store (reached target.place (memory_of areas store)) (λ now place.

@@ -52,7 +52,7 @@ is_number side = list_all is_digit (side_bytes side)
 abbrev pub is_alphabetic : Side → Bool
 is_alphabetic side = list_all (λ byte. byte == 32 || is_letter byte) (side_bytes side)
 
--- it is of this class
+-- the item is of this class
 abbrev pub is_of_class : ClassKind → Side → Bool
 is_of_class classes.Numeric = is_number
 is_of_class classes.Alphabetic = is_alphabetic

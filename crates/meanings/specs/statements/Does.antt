@@ -47,7 +47,7 @@ abbrev pub of_sum : Bool → Roots → Answer Bool → Effect
 of_sum guarded store (Ok error) = no_effect store (arm_of guarded error)
 of_sum guarded store (Err abend) = no_effect store (Abended abend)
 
--- this arm is chosen, and nothing else is done
+-- the effect of choosing this arm, nothing else being done
 abbrev pub chooses : Roots → Answer ℕ → Effect
 chooses store (Ok arm) = no_effect store (Chose arm)
 chooses store (Err abend) = no_effect store (Abended abend)

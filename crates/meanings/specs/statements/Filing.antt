@@ -42,7 +42,7 @@ pub record Effect : Type 0 where
   pub store : Roots
   pub end : Ended
 
--- no operation was done, and the statement ended so
+-- the effect of a statement that ended so without an operation
 abbrev pub no_effect : Roots → Ended → Effect
 no_effect store end = record { operations = []; store = store; end = end }
 
@@ -187,7 +187,7 @@ then_by world effect _ next =
 abbrev pub then_do : World → Effect → (Roots → World → Effect) → Effect
 then_do world effect next = then_by world effect effect.end next
 
--- this for each in turn, as far as the run goes on
+-- the effect of this for each file in turn, as far as the run goes on
 abbrev pub each_file : {A : Type 0} → (Roots → World → A → Effect) → Roots → World → List A → Effect
 each_file does store world [] = no_effect store Went
 each_file does store world (a ∷ others) =

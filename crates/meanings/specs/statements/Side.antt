@@ -78,7 +78,7 @@ expr_side memory expr =
 
 -- ---- comparing
 
--- it may be compared as a number
+-- the side may be compared as a number
 abbrev pub is_numeric : Side → Bool
 is_numeric (Bytes bytes) = false
 is_numeric (Filler byte) = false
@@ -132,7 +132,7 @@ numbers_compared a b =
 abbrev pub bytes_compared : Side → Side → Ordering
 bytes_compared a b = filled_order (filler_of a) (filler_of b) a b
 
--- by value where both are numbers, and else by bytes
+-- how two sides compare: by value where both are numbers, and else by bytes
 abbrev pub compared : Side → Side → Answer Ordering
 compared a b =
     if is_numeric a

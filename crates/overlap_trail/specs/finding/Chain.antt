@@ -13,7 +13,7 @@ use Rattle.pending_returns.specs.faults.Clash.{FaultsAt}
 use Rattle.overlap_trail.specs.declared.finding.search.Predecessor.{Predecessor}
 use Rattle.overlap_trail.specs.finding.Search.{Traces}
 
--- by one of these calls
+-- the range was come to by one of these calls
 abbrev pub ByCall : List ℕ → ℕ → ℕ → Predecessor → Type 0
 ByCall calls before to how = (how.before ≡ before) × Holds calls to
 
@@ -63,7 +63,7 @@ abbrev pub ends_after : List ℕ → List Range → List ℕ
 ends_after ends [] = ends
 ends_after ends (range ∷ ranges) = ends_after (with_exit range.exit ends) ranges
 
--- it is a fault where these ends are pending
+-- the fault comes where these ends are pending
 abbrev pub IsFaultAt : FlowFault → List ℕ → Type 0
 IsFaultAt (Overlap paragraph) ends = fault_of (Ends paragraph) ends ≡ Some (Overlap paragraph)
 IsFaultAt (Reentry paragraph) ends = is_among paragraph ends ≡ true
@@ -94,7 +94,8 @@ pub record IsChain (levels : List RangeFacts) (ranges : List Range) (fault : Flo
     -- no range comes twice
     pub once : NoneTwice ranges
 
--- from main along calls to a level that does the fault, where a range that ends there is passed
+-- a way leads from main along calls to a level that does the fault, where a range that ends there
+-- is passed
 pub record IsWay (levels : List RangeFacts) (path : List ℕ) (base end : ℕ) (fault : FlowFault)
     : Type 0 where
   -- the path begins at main

@@ -22,30 +22,30 @@ IsAimed table (Ending paragraph) (Calls called after) = (range : Range)
     × (slice_get table.ranges called ≡ Some range) × (is_exit range.exit paragraph ≡ true)
 IsAimed table aim place = ⊥
 
--- it is met at none of the places
+-- what is sought is met at none of the places
 abbrev pub NoneMeets : Table → SearchGoal → List ℕ → Type 0
 NoneMeets table aim places = (place : ℕ) (here : ProgramPoint) → Holds places place →
     slice_get table.places place ≡ Some here → IsAimed table aim here → ⊥
 
--- it is met at the place with this number in the list
+-- what is sought is met at the place with this number in the list
 abbrev pub MeetsAt : Table → SearchGoal → List ℕ → ℕ → Type 0
 MeetsAt table aim places at =
     (place : ℕ) × (here : ProgramPoint) × (slice_get places at ≡ Some place)
     × (slice_get table.places place ≡ Some here) × IsAimed table aim here
 
--- it is met nowhere that the level comes to, where these ranges return
+-- what is sought is met nowhere that the level comes to, where these ranges return
 abbrev pub IsMetNowhere : Table → List Bool → Range → SearchGoal → Type 0
 IsMetNowhere table returns range aim = (place : ℕ) (here : ProgramPoint) →
     ComesIn table returns range place → slice_get table.places place ≡ Some here →
     IsAimed table aim here → ⊥
 
--- it is met somewhere there
+-- what is sought is met somewhere there
 abbrev pub IsMetSomewhere : Table → List Bool → Range → SearchGoal → Type 0
 IsMetSomewhere table returns range aim = (place : ℕ) × (here : ProgramPoint)
     × ComesIn table returns range place × (slice_get table.places place ≡ Some here)
     × IsAimed table aim here
 
--- these moves lead to where it is met, where these ranges have lemmas
+-- these moves lead to where what is sought is met, where these ranges have lemmas
 abbrev pub IsMetBy : Table → List (Option ℕ) → Range → SearchGoal → List Move → Type 0
 IsMetBy table numbers range aim moves = (place : ℕ) × (here : ProgramPoint)
     × ComesBy table numbers range place moves × (slice_get table.places place ≡ Some here)

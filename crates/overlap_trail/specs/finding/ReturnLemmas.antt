@@ -16,7 +16,7 @@ abbrev pub RangesOnce : List Range → Type 0
 RangesOnce ranges = (a b : ℕ) (range : Range) → slice_get ranges a ≡ Some range →
     slice_get ranges b ≡ Some range → a ≡ b
 
--- of each range that has a lemma, the number of it
+-- the numbers of the ranges' lemmas, where they have one
 abbrev pub Numbers : Table → List Lemma → List (Option ℕ) → Type 0
 Numbers table lemmas numbers = (number lemma : ℕ) →
     slice_get numbers number ≡ Some (Some lemma) → (range : Range)

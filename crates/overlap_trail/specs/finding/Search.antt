@@ -15,7 +15,7 @@ abbrev pub is_there : Option ℕ → Bool
 is_there None = false
 is_there (Some number) = true
 
--- of each range, whether it has a lemma
+-- whether each range has a lemma
 abbrev pub flags_of : List (Option ℕ) → List Bool
 flags_of numbers = map (λ (number : Option ℕ). is_there number) numbers
 
@@ -24,7 +24,7 @@ abbrev pub arm_of : Bool → ℕ → Option Move
 arm_of true number = None
 arm_of false number = Some (Arm (suc number))
 
--- by this move, or by none, control goes on from the place to the next, over the ranges that have
+-- control goes on from the place to the next by this move, or by none, over the ranges that have
 -- lemmas
 abbrev pub GoesBy : Table → List (Option ℕ) → Range → ProgramPoint → Option Move → ℕ → Type 0
 GoesBy table numbers range (Goes to) moved next = (moved ≡ None) × (next ≡ to)
@@ -68,13 +68,13 @@ pub record Tracks (New : ℕ → Predecessor → Type 0) (before after : List �
       slice_get after at ≡ Some place →
       slice_get later at ≡ Some how → New place how
 
--- by this way of these
+-- the place was come to by one of these ways
 abbrev pub ByWay : List (Option ℕ) → ℕ → ℕ → Predecessor → Type 0
 ByWay ways before place how = (how.before ≡ before) × ((number : ℕ)
     × (slice_get ways number ≡ Some (Some place))
     × (how.moved ≡ arm_of (is_there (only ways)) number))
 
--- by a step from this place
+-- the place was come to by a step from this one
 abbrev pub ByStep : Table → List (Option ℕ) → Range → ProgramPoint → ℕ → ℕ → Predecessor → Type 0
 ByStep table numbers range here before place how = (how.before ≡ before)
     × GoesBy table numbers range here how.moved place
@@ -98,7 +98,7 @@ pub record Traces (First : ℕ → Type 0) (Steps : ℕ → Option Move → ℕ 
 abbrev pub BeginsLevel : Table → Range → ℕ → Type 0
 BeginsLevel table range place = slice_get table.starts range.entry ≡ Some place
 
--- in the range's level control goes from one place to the other, by this move or by none
+-- control goes from one place to the other in the range's level, by this move or by none
 abbrev pub StepsLevel : Table → List (Option ℕ) → Range → ℕ → Option Move → ℕ → Type 0
 StepsLevel table numbers range from moved to = (here : ProgramPoint)
     × (slice_get table.places from ≡ Some here) × GoesBy table numbers range here moved to

@@ -19,7 +19,7 @@ is_letter byte =
 abbrev pub has_letter : List ℕ → Bool
 has_letter word = list_any is_letter word
 
--- it isn't reserved, nor of what this profile leaves out
+-- the word isn't reserved, nor of what this profile leaves out
 unfoldable pub is_free : List ℕ → Bool
 is_free word = not (is_listed reserved_words word) && not (is_listed left_out_words word)
 

@@ -22,11 +22,11 @@ abbrev pub FaultsAt : List RangeFacts → RangeFacts → ℕ → FlowFault → T
 FaultsAt levels facts end fault = ((fault ≡ Reentry end) × EndsOne levels facts.calls end)
     ⊎ ((fault ≡ Overlap end) × Holds facts.ends end)
 
--- it does none
+-- the level doesn't fault on that end
 abbrev pub IsFine : List RangeFacts → RangeFacts → ℕ → Type 0
 IsFine levels facts end = (EndsOne levels facts.calls end → ⊥) × (Holds facts.ends end → ⊥)
 
--- from this range, which ends there, calls lead to a level that faults on that end
+-- calls lead from this range, which ends there, to a level that faults on that end
 pub record IsClash (levels : List RangeFacts) (base end : ℕ) (clash : Clash) : Type 0 where
   -- the clash names the base
   pub is_base : clash.base ≡ base

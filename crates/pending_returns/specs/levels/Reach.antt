@@ -155,7 +155,7 @@ abbrev pub GathersAllEnds : Table → Range → List ℕ → List ℕ → Type 0
 GathersAllEnds table range places ends = (paragraph : ℕ) → Holds ends paragraph
     ↔ IsEnded table range places paragraph
 
--- of each program of which it is a table, the ranges that are marked as returning do return
+-- the ranges that are marked as returning do return, in each program of which it is a table
 abbrev pub SaysSoundly : Table → List Bool → Type 0
 SaysSoundly table returns = (never_first : Chooser → Bool) (program : Program)
     (points : ℕ → Point) → IsTable never_first program table points →

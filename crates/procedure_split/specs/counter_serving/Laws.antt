@@ -17,7 +17,7 @@ ClosedGraphsKeepCells =
     (graph : Graph) (cell : ℕ) (kind : Added) →
     kind_at graph.added cell ≡ Some kind → kind_at (closed_graph graph).added cell ≡ Some kind
 
--- with the table of the cells of the closed graphs, the counters of graphs may be written
+-- the counters of graphs may be written, with the table of the cells of the closed graphs
 abbrev pub ClosedCountersAreServed : Type 0
 ClosedCountersAreServed =
     (declared : Declared) (added : AddedItems) (order : List Range) (graphs : Graphs) →

@@ -15,7 +15,8 @@ abbrev pub RulesKeepArms : Type 0
 RulesKeepArms =
     (graph : Graph) → NodesHaveArms graph.nodes → NodesHaveArms (closed_graph graph).nodes
 
--- so what a program is split into nests within the limit, where those of its lowered graphs have
+-- what a program is split into nests within the limit, where each choice in its lowered graphs has
+-- its arms
 abbrev pub SplitProgramsOfGraphsNestWithin : Type 0
 SplitProgramsOfGraphsNestWithin = (program made : Program) (summary : Summary) →
     HasFlow program summary → (split : IsSplit program summary made) →

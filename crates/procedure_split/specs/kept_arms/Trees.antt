@@ -34,7 +34,7 @@ abbrev pub NodesHaveArms : List Node → Type 0
 NodesHaveArms [] = Unit {0}
 NodesHaveArms (node ∷ nodes) = TreeHasArms node.tree × NodesHaveArms nodes
 
--- in each graph that a program's ranges are lowered to
+-- each choice in these graphs has its arms
 abbrev pub GraphsHaveArms : List code.Graph → Type 0
 GraphsHaveArms graphs = (at : ℕ) (graph : code.Graph) → slice_get graphs at ≡ Some graph →
     NodesHaveArms (seen_graph graph).nodes

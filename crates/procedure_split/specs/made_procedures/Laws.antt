@@ -47,7 +47,7 @@ pub record AreMade (program result : Program) (writing : Writing) : Type 0 where
   pub many : AreAsMany order closed cells names
   pub paragraphs : AreParagraphsOf order closed cells places names result.paragraphs
 
--- then the result's control is what is written of the closed graphs
+-- the result's control is what is written of the closed graphs
 abbrev pub MadeProceduresAreWritten : Type 0
 MadeProceduresAreWritten = (program result : Program) (writing : Writing) →
     AreMade program result writing →

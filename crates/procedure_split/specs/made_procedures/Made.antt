@@ -32,7 +32,7 @@ pub record IsParagraphOf (cells : List CellItem) (places : List ProcedurePlace) 
   -- which is all that the procedure holds
   pub is : IsProcedure cells places main whole sentence
 
--- one for each range, with its name and the items of its cells
+-- there is one paragraph for each range, with its name and the items of its cells
 pub record AreParagraphsOf (order : List Range) (closed : List Closed)
     (cells : List (List CellItem)) (places : List ProcedurePlace) (names : List (List ℕ))
     (paragraphs : List Paragraph) : Type 0 where
@@ -44,7 +44,7 @@ pub record AreParagraphsOf (order : List Range) (closed : List Closed)
       slice_get paragraphs at ≡ Some made →
       IsParagraphOf own places (is_main (seen_range range)) (seen_tree one.tree) name made
 
--- as many of each as there are ranges
+-- there are as many of each as there are ranges
 pub record AreAsMany (order : List Range) (closed : List Closed) (cells : List (List CellItem))
     (names : List (List ℕ)) : Type 0 where
   pub trees : length closed ≡ length order

@@ -36,7 +36,7 @@ abbrev mutual
   BodyStays (Nested stmts) = StmtsStay stmts
   BodyStays (Performed entry exit) = Unit {0}
 
--- so they are seen alike, whichever paragraph is the last one of their section
+-- statements that stay are seen alike, whichever paragraph is the last one of their section
 abbrev pub StatementsAreSeenAlike : Type 0
 StatementsAreSeenAlike = (last : ℕ) (stmts : List Stmt) → StmtsStay (seen_stmts 0 stmts) →
     seen_stmts last stmts ≡ seen_stmts 0 stmts

@@ -9,7 +9,8 @@ use Rattle.procedure_split.specs.Splitting.{IsSplit, IsSplitFault, IsSplitWith}
 use Rattle.procedure_split.specs.split_behaviour.Alike.{IsWellMade}
 use Rattle.pending_returns.specs.FaultFree.{IsFaultFree}
 
--- by two summaries of one flow: one structured program, one limit, or a program and no limit
+-- two summaries of one flow split the program alike: into one structured program, or past one
+-- limit; where one splits it, the other passes no limit
 pub record IsSplitOnce (program : Program) (one other : Summary) : Type 0 where
   -- both split it into one program
   pub made : (first second : Split) → IsSplitWith program one first →

@@ -67,8 +67,8 @@ PlansAreByPaths =
     IsSummary told.never_first program summary → IsPlanOf summary.ranges returning order →
     IsPlannedByPaths told program returning order
 
--- so a COBOL program that names its own items and paragraphs and isn't faulty: no flow path of the
--- theory faults either, and its plan is one by paths, for what lowering knows of it
+-- no flow path of the theory faults in a COBOL program that names its own items and paragraphs and
+-- isn't faulty, and its plan is one by paths, for what lowering knows of it
 abbrev pub CobolPlansAreByPaths : Type 0
 CobolPlansAreByPaths =
     (program : cobol.Program) (summary : Summary) (returning : List (List ℕ))
@@ -80,8 +80,8 @@ CobolPlansAreByPaths =
     (IsFaulty (flow_facts_of program.files returning) (control_of program) → ⊥)
     × IsPlannedByPaths (flow_facts_of program.files returning) (control_of program) returning order
 
--- and with the nodes that are reached such a program has what the headline asks of its flow: it
--- isn't faulty, this is a plan for it, and each range of the order is performed by an earlier one
+-- such a program, with the nodes that are reached, has what the headline asks of its flow: it isn't
+-- faulty, this is a plan for it, and each range of the order is performed by an earlier one
 abbrev pub CobolProgramsHavePlans : Type 0
 CobolProgramsHavePlans =
     (program : cobol.Program) (summary : Summary) (returning : List (List ℕ))

@@ -26,7 +26,7 @@ abbrev pub with_part : List (List ℕ) → ℕ → Option ℕ → List (List ℕ
 with_part table entry None = table
 with_part table entry (Some exit) = with_exit table entry exit
 
--- with the range of these facts, where it returns
+-- the table with the range of these facts, where it returns
 abbrev pub with_facts : List (List ℕ) → RangeFacts → List (List ℕ)
 with_facts table facts =
     if facts.returns then with_part table facts.range.entry facts.range.exit else table
@@ -46,7 +46,7 @@ abbrev pub NamesReturning : List RangeFacts → List (List ℕ) → Type 0
 NamesReturning ranges table = (entry exit : ℕ) →
     returns_by table entry exit ≡ true ↔ Returns ranges entry exit
 
--- for each range the numbers of those that it performs
+-- the numbers of the ranges that each range performs
 abbrev pub calls_of : List RangeFacts → List (List ℕ)
 calls_of ranges = map (λ (facts : RangeFacts). facts.calls) ranges
 
@@ -59,7 +59,7 @@ or_main (Some facts) = facts.range
 abbrev pub range_at : List RangeFacts → ℕ → Range
 range_at ranges number = or_main (slice_get ranges number)
 
--- which ranges return, and the order in which they come
+-- this is a plan by these facts: which ranges return, and the order in which they come
 pub record IsPlanOf (ranges : List RangeFacts) (returning : List (List ℕ)) (order : List Range)
     : Type 0 where
   -- the table is made of these facts

@@ -20,13 +20,14 @@ abbrev pub AreDroppedOf : Program → List ℕ → Type 0
 AreDroppedOf program numbers =
     AreDropped (never_first_of program.files) (control_of program) numbers
 
--- their labels, in this order
+-- these are the labels of the paragraphs that are dropped, in this order
 abbrev pub AreLabelsOfDropped : Program → List (Option (List ℕ)) → Type 0
 AreLabelsOfDropped program labels = (numbers : List ℕ) × AreDroppedOf program numbers
     × (labels ≡ map (paragraph_label program.paragraphs) numbers)
 
--- its name; how many paragraphs it has, and ranges that some flow path performs, main included; the
--- paragraphs that are dropped; and how many items of each kind are added
+-- the report tells the program's name; how many paragraphs it has, and ranges that some flow path
+-- performs, main included; the paragraphs that are dropped; and how many items of each kind are
+-- added
 pub record IsReportOf (program : Program) (summary : Summary) (added : AddedCounts)
     (report : Report) : Type 0 where
   pub name : report.name ≡ program.name

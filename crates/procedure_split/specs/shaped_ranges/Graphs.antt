@@ -19,7 +19,7 @@ graph_by told program keep range =
     let all : Range → Label → Bool = λ other. keep in
     lowered_graphs told program all (numbers_by all program) (added_by all program) range
 
--- it has exactly the nodes that are reached
+-- the graph has exactly the nodes that are reached
 pub record IsGraphOf (told : FlowFacts) (program : Program) (range : Range) (graph : reduced.Graph)
     : Type 0 where
   -- the nodes that are kept
@@ -29,7 +29,7 @@ pub record IsGraphOf (told : FlowFacts) (program : Program) (range : Range) (gra
   -- the graph has these nodes
   pub is : graph ≡ graph_by told program keep range
 
--- one for each range
+-- there is one such graph for each range
 abbrev pub AreGraphsOf : FlowFacts → Program → List code.Range → List Graph → Type 0
 AreGraphsOf told program [] [] = Unit {0}
 AreGraphsOf told program [] (graph ∷ graphs) = ⊥

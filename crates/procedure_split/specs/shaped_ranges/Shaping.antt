@@ -18,7 +18,7 @@ abbrev pub AllClosed : List Graph → Type 0
 AllClosed [] = Unit {0}
 AllClosed (graph ∷ graphs) = IsClosed (seen_graph graph) × AllClosed graphs
 
--- with this body and end, and these added items
+-- the tree has this body and end, and these items are added
 pub record IsClosedFrom (shaped : Shaped) (closed : Closed) : Type 0 where
   pub tree : seen_tree closed.tree ≡ tree (seen_body shaped.body.items) (seen_end shaped.end)
   pub added : closed.added ≡ shaped.added

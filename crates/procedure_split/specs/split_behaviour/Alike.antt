@@ -19,18 +19,18 @@ pub record IsWellMade (program : Program) : Type 0 where
   -- its entries and lists of names are as they can be written
   pub fit : IsFit program
 
--- then what it is split into is structured, and behaves as it did over all files
+-- what a program is split into is structured, and behaves as it did over all files
 abbrev pub SplitProgramsBehaveAlike : Type 0
 SplitProgramsBehaveAlike =
     (program made : Program) (summary : Summary) →
     IsWellMade program → IsFaultFree program summary → IsSplit program summary made →
     IsStructured (control_of made) × SameBehaviour program made
 
--- it has a name, and is in no section
+-- the paragraph has a name, and is in no section
 abbrev pub StandsAlone : Paragraph → Type 0
 StandsAlone paragraph = IsSome paragraph.name × (paragraph.section ≡ None)
 
--- and so does each of its paragraphs
+-- each paragraph of what a program is split into has a name, and is in no section
 abbrev pub SplitProgramsHaveNames : Type 0
 SplitProgramsHaveNames =
     (program made : Program) (summary : Summary) → IsSplit program summary made →

@@ -65,7 +65,7 @@ abbrev mutual
   BodyHasArms (Nested stmts) = StmtsHaveArms stmts
   BodyHasArms (Performed entry exit) = Unit {0}
 
--- in each shaped body
+-- each choice in the shaped bodies has its arms
 abbrev pub ClosedHaveArms : List Closed → Type 0
 ClosedHaveArms closed = (at : ℕ) (one : Closed) → slice_get closed at ≡ Some one →
     StmtsHaveArms (body_of (seen_tree one.tree))

@@ -21,7 +21,7 @@ abbrev pub WrittenStmtsNestAsJudged : Type 0
 WrittenStmtsNestAsJudged = (way : Way) (stmts : Stmts) → StmtsHaveArms stmts →
     levels (all_written way stmts) ≡ nesting stmts
 
--- so have those of statements that are as they are read
+-- each choice in statements that are as they are read has its arms
 abbrev pub NamedStatementsHaveArms : Type 0
 NamedStatementsHaveArms = (counts : Counts) (last : ℕ) (list : List Stmt) →
     stmts_named counts list ≡ true → StmtsHaveArms (seen_stmts last list)

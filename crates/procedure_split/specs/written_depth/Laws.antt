@@ -39,7 +39,7 @@ abbrev pub AllNestWithin : Naming → ℕ → List Procedure → Type 0
 AllNestWithin naming limit procedures = (at : ℕ) (procedure : Procedure) →
     slice_get procedures at ≡ Some procedure → NestsWithin naming limit procedure
 
--- then no program that is written of them nests deeper
+-- no program that is written of such procedures nests deeper
 abbrev pub WrittenProgramsNestWithin : Type 0
 WrittenProgramsNestWithin = (naming : Naming) (limit : ℕ) (procedures : List Procedure)
     (program : trees.Program) → control_of program ≡ rendered naming procedures →

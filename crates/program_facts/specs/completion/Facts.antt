@@ -25,7 +25,8 @@ module _ (told : FlowFacts) where
     leaves_sentence = leave_sentence (cuts told stmts);
   }
 
-  -- of the arms of a choice; where the first is dead, that it is missing lets nothing through
+  -- the facts of the arms of a choice; where the first is dead, that it is missing lets nothing
+  -- through
   abbrev pub facts_of_arms : Bool → Arms → Facts
   facts_of_arms first_is_dead arms = record {
     completes = choice_completes told first_is_dead arms;
@@ -36,15 +37,15 @@ module _ (told : FlowFacts) where
 
 -- How they are put together.
 
--- of no statement, and of one that acts
+-- the facts of no statement, and of one that acts
 abbrev pub acting : Facts
 acting = record { completes = true; leaves_loop = false; whole = true; leaves_sentence = false }
 
--- of no arm
+-- the facts of no arm
 abbrev pub no_arms : Facts
 no_arms = record { completes = false; leaves_loop = false; whole = true; leaves_sentence = false }
 
--- of a PERFORM without a loop, whose range returns or doesn't, and of STOP RUN
+-- the facts of a PERFORM without a loop, whose range returns or doesn't, and of STOP RUN
 abbrev pub performing : Bool → Facts
 performing returns =
     record { completes = returns; leaves_loop = false; whole = true; leaves_sentence = false }
@@ -59,7 +60,7 @@ abbrev pub leaving_sentence : Facts
 leaving_sentence =
     record { completes = false; leaves_loop = false; whole = false; leaves_sentence = true }
 
--- of EXIT PERFORM
+-- the facts of EXIT PERFORM
 abbrev pub leaving_loop : Facts
 leaving_loop =
     record { completes = false; leaves_loop = true; whole = false; leaves_sentence = false }
@@ -77,7 +78,7 @@ beside arm others = record {
 abbrev pub both : Facts → Facts → Facts
 both first next = record (beside first next) { completes = next.completes }
 
--- after what can't complete there is nothing
+-- the facts of one thing after another; after what can't complete there is nothing
 abbrev pub behind : Facts → Facts → Facts
 behind first next = if first.completes then both first next else first
 

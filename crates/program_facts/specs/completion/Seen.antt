@@ -20,7 +20,7 @@ abbrev pub loop_facts : Option language.Control → Facts → Facts
 loop_facts None body = body
 loop_facts (Some control) body = looped (is_after control) body
 
--- of a PERFORM of a range, once or in a loop
+-- the facts of a PERFORM of a range, once or in a loop
 abbrev pub perform_facts : Option language.Control → Bool → Facts
 perform_facts None returns = performing returns
 perform_facts (Some control) returns = looped (is_after control) (performing returns)
@@ -34,19 +34,19 @@ module _ (told : FlowFacts) where
   abbrev pub AreFactsOfAll : List Stmt → Facts → Type 0
   AreFactsOfAll stmts facts = (last : ℕ) → facts ≡ facts_of_all told (seen_stmts last stmts)
 
-  -- of the arms of READ and of arithmetic
+  -- these are the facts of the arms of READ or of arithmetic
   abbrev pub AreFactsOfBoth : Bool → Arms → Facts → Type 0
   AreFactsOfBoth first_is_dead arms facts =
       (last : ℕ) → facts ≡ facts_of_arms told first_is_dead (both_arms (seen_both last arms))
 
-  -- of an ELSE
+  -- these are the facts of an ELSE
   abbrev pub AreFactsOfElse : List Stmt → Facts → Type 0
   AreFactsOfElse stmts facts =
       (last : ℕ) →
       facts
       ≡ facts_of_arms told false (arm_before (else_of (map (seen last) stmts)) language.done)
 
-  -- of the phrases WHEN, without WHEN OTHER
+  -- these are the facts of the phrases WHEN, without WHEN OTHER
   abbrev pub AreFactsOfWhens : List When → Facts → Type 0
   AreFactsOfWhens whens facts =
       (last : ℕ) →

@@ -19,7 +19,7 @@ sentence_most sentence = stmts_most sentence.stmts
 abbrev pub paragraph_most : Paragraph → ℕ
 paragraph_most paragraph = largest (map sentence_most paragraph.sentences)
 
--- in the place of a file's status
+-- the most terms in the place of a file's status
 abbrev pub file_most : FileEntry → ℕ
 file_most file = if_any place_most file.status
 

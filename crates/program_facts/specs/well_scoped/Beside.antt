@@ -15,7 +15,7 @@ use Rattle.cob_tree.specs.declared.place.Operand.{Operand}
 use Rattle.control_flow_theory.specs.language.All.{all}
 use Rattle.program_facts.specs.well_scoped.Part.{Counts, is_filled, if_any, place_named, operand_named, operands_named, expr_named}
 
--- by TIMES, UNTIL or VARYING
+-- the control is TIMES, UNTIL or VARYING
 abbrev pub turns : Control → Bool
 turns control.Once = false
 turns _ = true

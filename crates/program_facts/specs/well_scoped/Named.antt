@@ -20,7 +20,8 @@ use Rattle.control_flow_theory.specs.language.All.{all}
 use Rattle.program_facts.specs.well_scoped.Part.{Counts, is_filled, if_any, number_named, item_named, file_named, paragraph_named, place_named, places_named, operand_named, operands_named}
 use Rattle.program_facts.specs.well_scoped.Beside.{turns, is_truth, is_value, cond_named, control_named, calc_named, target_named, subject_named, test_named}
 
--- of a WHEN: whether what it holds is named, and under which subjects its tests may be
+-- what is known of a WHEN: whether what it holds is named, and under which subjects its tests may
+-- be
 pub record Branch : Type 0 where
   pub named : Bool
   -- its tests may be under TRUE or FALSE

@@ -68,7 +68,7 @@ pub record IsBehind (program : Program) (count number : ℕ) (old : List Program
   -- and there at the loop's next turn
   pub cycled : IsAt old points exits.cycled (at number (from_loop true rest))
 
--- whatever follows the statements at these places, they begin at this one
+-- the statements at these places begin at this one, whatever follows them
 abbrev pub Builds : (Chooser → Bool) → ℕ → ℕ → List ProgramPoint → List ProgramPoint → List Range →
     List Range →
     Stmts → Exits → ℕ → Type 0
@@ -85,7 +85,7 @@ branches_of done = []
 branches_of (given arm others) = arm ∷ branches_of others
 branches_of (missing others) = none ∷ branches_of others
 
--- where they begin
+-- the points at which these branches begin
 abbrev pub branch_points : ℕ → List Item → List Stmts → List (Option Point)
 branch_points number rest branches = map (λ stmts. Some (at number (before stmts rest))) branches
 

@@ -16,11 +16,11 @@ pub record Walk : Type 0 where
   pub point : Point
   pub moves : List Move
 
--- at this point, with these moves left
+-- the walk at this point, with these moves left
 abbrev pub walk : Point → List Move → Walk
 walk point moves = record { point = point; moves = moves }
 
--- at this point, if there is one
+-- the walk at this point, if there is one
 abbrev pub walk_to : Option Point → List Move → Option Walk
 walk_to None moves = None
 walk_to (Some point) moves = Some (walk point moves)
@@ -55,7 +55,7 @@ over_call lemmas entry exit after (Over number ∷ moves) =
     if is_range (slice_get lemmas number) entry exit then Some (walk after moves) else None
 over_call lemmas entry exit after (Into ∷ moves) = None
 
--- past the end of a paragraph that isn't the range's exit, into the next one
+-- the walk past the end of a paragraph that isn't the range's exit, into the next one
 abbrev pub past_end : Program → Option ℕ → ℕ → List Move → Option Walk
 past_end program exit paragraph moves =
     if is_exit exit paragraph then None

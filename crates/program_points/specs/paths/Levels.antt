@@ -5,7 +5,7 @@ use Rattle.control_flow_theory.specs.language.Language.{Chooser, Program}
 use Rattle.program_points.specs.paths.Step.{Point, start, Ways, Calls, Ends, next, way_at, is_paragraph}
 use Rattle.program_points.specs.paths.Flow.{part, is_exit, Pending, returning}
 
--- in this range's level control comes here; a PERFORM is stepped over where its range's level comes
+-- control comes here in this range's level; a PERFORM is stepped over where its range's level comes
 -- to its return
 pub data Comes (never_first : Chooser → Bool) (program : Program) : Range → Point → Type 0 where
   enters : (range : Range) → Comes never_first program range (start program range.entry)

@@ -14,11 +14,11 @@ pub record Point : Type 0 where
   pub paragraph : ℕ
   pub rest : List Item
 
--- in this paragraph, with this rest
+-- the point in this paragraph, with this rest
 abbrev pub at : ℕ → List Item → Point
 at paragraph rest = record { paragraph = paragraph; rest = rest }
 
--- at the beginning of the paragraph with this number
+-- the point at the beginning of the paragraph with this number
 abbrev pub start : Program → ℕ → Point
 start program number = at number (rest_of program number)
 
@@ -67,7 +67,7 @@ item_by way (Turn turning body) = Turn (turning_by way turning) body
 abbrev pub way_of : ℕ → Item → List Item → Way (Unit {0})
 way_of way item rest = item_way (by_way way) (item_by way item) rest tt
 
--- where it leads, from this paragraph
+-- the point to which a way leads, from this paragraph
 abbrev pub led : Program → ℕ → Way (Unit {0}) → Option Point
 led program number (On trace nothing items) = Some (at number items)
 led program number (Halts trace how nothing) = None
@@ -101,7 +101,7 @@ without_first true (first ∷ ways) = None ∷ ways
 without_first barred ways = ways
 
 module _ (never_first : Chooser → Bool) (program : Program) (number : ℕ) where
-  -- so many ways, from this one on
+  -- where so many ways lead, from this one on
   abbrev pub ways_from : ℕ → ℕ → Item → List Item → List (Option Point)
   ways_from way zero item rest = []
   ways_from way (suc count) item rest =

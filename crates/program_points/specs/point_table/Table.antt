@@ -48,7 +48,7 @@ pub record IsTable (never_first : Chooser → Bool) (program : Program) (table :
   pub entries : (number : ℕ) (range : Range) → slice_get table.ranges number ≡ Some range →
       is_paragraph program range.entry ≡ true
 
--- in the level of this range control comes to this place, where these ranges return
+-- control comes to this place in the level of this range, where these ranges return
 pub data ComesIn (table : Table) (returns : List Bool) (range : Range) : ℕ → Type 0 where
   enters : (place : ℕ) → slice_get table.starts range.entry ≡ Some place →
       ComesIn table returns range place
@@ -64,7 +64,7 @@ pub data ComesIn (table : Table) (returns : List Bool) (range : Range) : ℕ →
       slice_get table.places from ≡ Some (Ends paragraph) → is_exit range.exit paragraph ≡ false →
       slice_get table.starts (suc paragraph) ≡ Some to → ComesIn table returns range to
 
--- it comes to its return
+-- the range comes to its return
 abbrev pub ReturnsHere : Table → List Bool → Range → Type 0
 ReturnsHere table returns range = (place : ℕ) × (paragraph : ℕ) × ComesIn table returns range place
     × (slice_get table.places place ≡ Some (Ends paragraph)) × (is_exit range.exit paragraph ≡ true)

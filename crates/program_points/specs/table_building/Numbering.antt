@@ -58,7 +58,7 @@ pub record Extends (old new : List ℕ) (until paragraph : ℕ) : Type 0 where
   pub more : (number : ℕ) → length old ≤ number → number < until →
       slice_get new number ≡ Some paragraph
 
--- with this paragraph, one start more is described
+-- one start more is described, with this paragraph
 abbrev pub BuildsParagraph : (Chooser → Bool) → ℕ → List ProgramPoint → List ProgramPoint →
     List Range →
     List Range → List ℕ → List ℕ → Paragraph → ℕ → Type 0
@@ -69,7 +69,7 @@ BuildsParagraph never_first count old new old_ranges new_ranges old_owners new_o
     Numbered never_first program count new new_ranges new_owners number
     × KeepsRanges old_ranges new_ranges
 
--- with these paragraphs, all starts are described
+-- all starts are described, with these paragraphs
 abbrev pub NumbersAll : (Chooser → Bool) → List Paragraph → ℕ → List ProgramPoint →
     List ProgramPoint →
     List Range → List Range → List ℕ → List ℕ → Type 0

@@ -49,6 +49,6 @@ stmts_own stmts = largest (map own_nesting stmts)
 abbrev pub whens_own : List When → ℕ
 whens_own whens = largest (map when_own whens)
 
--- as a later arm
+-- how deep statements nest as a later arm
 abbrev pub later_own : List Stmt → ℕ
 later_own stmts = later_level (Some (map own_nesting stmts))

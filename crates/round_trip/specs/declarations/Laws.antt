@@ -29,8 +29,8 @@ DeclaredProgramsKeepRules =
     ≡ record { files = program.files; entries = program.entries; fault = None } →
     (fds : List Fd) × (storage : List Entry) × KeepsRules program fds storage
 
--- its entries are in such sections that what is printed before the PROCEDURE DIVISION spells
--- drafts that declare the program's files and entries again
+-- the program's entries are in such sections that what is printed before the PROCEDURE DIVISION
+-- spells drafts that declare its files and entries again
 pub record ReadBack (status : Form Place) (taken : ℕ) (program : Program) : Type 0 where
   pub fds : List Fd
   pub storage : List Entry

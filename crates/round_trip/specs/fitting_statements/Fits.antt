@@ -5,7 +5,7 @@ use Rattle.cob_tree.specs.declared.place.Expr.{Expr}
 use Rattle.cob_tree.specs.declared.place.Operand.{Operand}
 use Rattle.cob_tree.specs.declared.place.Place.{Place}
 
--- which parts may be used so
+-- a test of each part, by its use: which may be used so
 pub record Fits : Type 0 where
   -- an operand as a value
   pub value : Operand → Bool

@@ -53,6 +53,6 @@ are_arms_in_scope = fold-Arms Scoped Scoped Scoped stmt_step arms_step when_step
 abbrev pub is_when_in_scope : When → Scoped
 is_when_in_scope = fold-When Scoped Scoped Scoped stmt_step arms_step when_step
 
--- these statements are
+-- these statements are in scope
 abbrev pub are_in_scope : List Stmt → Scoped
 are_in_scope list = each_in (map is_in_scope list)

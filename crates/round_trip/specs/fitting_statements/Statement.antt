@@ -23,7 +23,7 @@ use Rattle.control_flow_theory.specs.language.All.{all}
 use Rattle.program_facts.specs.well_scoped.Part.{is_filled, if_any}
 use Rattle.round_trip.specs.fitting_statements.Fits.{Fits}
 
--- one at least, and each passes
+-- there is one at least, and each passes
 abbrev pub some_pass : {X : Type 0} → (X → Bool) → List X → Bool
 some_pass test list = is_filled list && all (map test list)
 
@@ -160,7 +160,7 @@ module _ (fits : Fits) where
   abbrev pub fit_when : When → Subject → Bool
   fit_when = fold-When Bool Bool (Subject → Bool) stmt_step arms_step when_step
 
-  -- these statements
+  -- these statements pass
   abbrev pub are_fit_stmts : List Stmt → Bool
   are_fit_stmts list = all (map fit_stmt list)
 
@@ -168,7 +168,7 @@ module _ (fits : Fits) where
   abbrev pub fit_sentence : Sentence → Bool
   fit_sentence sentence = are_fit_stmts sentence.stmts
 
-  -- these sentences
+  -- these sentences pass
   abbrev pub are_fit_sentences : List Sentence → Bool
   are_fit_sentences sentences = all (map fit_sentence sentences)
 
@@ -176,6 +176,6 @@ module _ (fits : Fits) where
   abbrev pub fit_paragraph : Paragraph → Bool
   fit_paragraph paragraph = are_fit_sentences paragraph.sentences
 
-  -- these paragraphs
+  -- these paragraphs pass
   abbrev pub are_fit_paragraphs : List Paragraph → Bool
   are_fit_paragraphs paragraphs = all (map fit_paragraph paragraphs)

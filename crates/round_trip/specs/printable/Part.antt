@@ -77,10 +77,10 @@ abbrev pub is_printable_window : Window → Bool
 is_printable_window =
     fold-Window Bool Bool Bool Bool Bool expr_step operand_step place_step sub_step window_step
 
--- these places
+-- these places can be printed
 abbrev pub are_printable_places : List Place → Bool
 are_printable_places places = all (map is_printable_place places)
 
--- these operands
+-- these operands can be printed
 abbrev pub are_printable_operands : List Operand → Bool
 are_printable_operands operands = all (map is_printable_operand operands)

@@ -48,7 +48,7 @@ are_printable_arms = fold-Arms Bool Bool Bool stmt_step arms_step when_step
 abbrev pub is_printable_when : When → Bool
 is_printable_when = fold-When Bool Bool Bool stmt_step arms_step when_step
 
--- these statements
+-- these statements can be printed
 abbrev pub are_printable_stmts : List Stmt → Bool
 are_printable_stmts list = all (map is_printable_stmt list)
 
@@ -56,6 +56,6 @@ are_printable_stmts list = all (map is_printable_stmt list)
 abbrev pub is_printable_sentence : Sentence → Bool
 is_printable_sentence sentence = are_printable_stmts sentence.stmts
 
--- these sentences
+-- these sentences can be printed
 abbrev pub are_printable_sentences : List Sentence → Bool
 are_printable_sentences sentences = all (map is_printable_sentence sentences)

@@ -47,7 +47,7 @@ PrintedLabelsAreOwn =
     without_indices source ≡ without_indices (own_procedures program taken) →
     AreLabelled source (own_procedures program taken) program
 
--- of a division that is read with no fault, by the procedures that its tokens tell
+-- the procedures of a division that is read with no fault are those that its tokens tell
 abbrev pub ReadProceduresAreOwn : Type 0
 ReadProceduresAreOwn =
     (names : Names) (entries : List Entry) (p : Input) (found : List Paragraph) (q : Input) →

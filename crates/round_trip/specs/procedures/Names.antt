@@ -12,7 +12,7 @@ abbrev pub own_name : Option (List ℕ) → List (List ℕ)
 own_name None = []
 own_name (Some name) = name ∷ []
 
--- in the order of their headers
+-- the names of paragraphs and sections, in the order of their headers
 abbrev pub own_names : List Paragraph → List (List ℕ)
 own_names [] = []
 own_names (paragraph ∷ paragraphs) =

@@ -41,7 +41,7 @@ HaveNamesAlone (paragraph ∷ paragraphs) =
     (((name : List ℕ) × (paragraph.name ≡ Some name)) × (paragraph.section ≡ None))
     × HaveNamesAlone paragraphs
 
--- and their names are names of headers, of which none comes twice
+-- the names of the procedures are names of headers, of which none comes twice
 pub record HasProcedures (program : Program) : Type 0 where
   -- its paragraphs are told apart by their headers
   pub outlined : AreOutlined program.paragraphs

@@ -8,7 +8,7 @@ use Rattle.parser_combinators.specs.Form.{Input, Form, next}
 abbrev pub kinds_of : List Token → List TokenKind
 kinds_of tokens = map (λ (token : Token). token.kind) tokens
 
--- before these tokens, after so many, with no fault
+-- the input before these tokens, after so many, with no fault
 abbrev pub here : List Token → ℕ → Input
 here rest taken = record { rest = rest; taken = taken; fault = None }
 
@@ -17,7 +17,7 @@ abbrev pub first_of : List TokenKind → Option TokenKind → Option TokenKind
 first_of [] behind = behind
 first_of (kind ∷ kinds) behind = Some kind
 
--- whatever follows
+-- whatever may follow
 abbrev pub Any : Option TokenKind → Type 0
 Any behind = Unit {0}
 

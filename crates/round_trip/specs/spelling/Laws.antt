@@ -70,7 +70,7 @@ pub record PartsAreSpelled : Type 0 where
       OperandHasRoom true 501 0 count →
       CountsTurns (parts_of names entries table) (kept_of names program) program count
 
--- of uses that fit their kinds no fault is noted
+-- no fault is noted of uses that fit their kinds
 pub record UsesAreFree : Type 0 where
   pub operand : (names : Names) (entries : List Entry) (table : ProcedureTable)
       (program : Program) (operand : Operand) → OperandIsFree names entries table program operand

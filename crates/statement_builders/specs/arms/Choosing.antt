@@ -49,7 +49,7 @@ IsArith calc into has_first first second made =
     seen 0 made ≡ Choose (By (Arith calc into))
     (put_arm (if_had has_first) first (put_arm Goes second done))
 
--- its turns are own, and so are what is performed and how often
+-- the statement performs the place by this control, and its turns are own
 abbrev pub IsOwnPerform : ℕ → Control → Stmt → Type 0
 IsOwnPerform place control made =
     OwnTurns (control_in control) × (seen 0 made ≡ perform_of (control_in control) place place)

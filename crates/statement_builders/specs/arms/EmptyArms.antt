@@ -9,7 +9,7 @@ use Rattle.control_flow_theory.specs.language.Language.{Range, Chooser, Evaluate
 use Rattle.control_flow_theory.specs.rendering.Rendering.{Empty, Continues, Stays, Goes, required, written_arm}
 use Rattle.cobol_theory.specs.cell_serving.Table.{CellTable}
 
--- one that the source has, or lacks
+-- what becomes of an empty arm that the source has, or lacks
 abbrev pub if_had : Bool → Empty
 if_had true = Continues
 if_had false = Goes

@@ -8,7 +8,7 @@ abbrev pub ArePlaced : (Range → ℕ) → List ProcedurePlace → Type 0
 ArePlaced place places = (at : ℕ) (placed : ProcedurePlace) → slice_get places at ≡ Some placed →
     place (Part placed.entry placed.exit) ≡ placed.place
 
--- by entry, and then by exit
+-- the one range comes before the other, by entry, and then by exit
 abbrev pub IsBefore : (entry exit other_entry other_exit : ℕ) → Type 0
 IsBefore entry exit other_entry other_exit =
     (entry < other_entry) ⊎ ((entry ≡ other_entry) × (exit < other_exit))
@@ -24,7 +24,7 @@ abbrev pub HasPlace : List ProcedurePlace → (entry exit : ℕ) → ℕ → Typ
 HasPlace places entry exit number = (at : ℕ)
     × (slice_get places at ≡ Some (record { entry = entry; exit = exit; place = number }))
 
--- where the list is in order, it says no place of the range
+-- the list, where it is in order, says no place of the range
 abbrev pub HasNone : List ProcedurePlace → (entry exit : ℕ) → Type 0
 HasNone places entry exit =
     AreInOrder places → (number : ℕ) → HasPlace places entry exit number → ⊥

@@ -54,8 +54,8 @@ module _ (way : Way) where
   abbrev pub written_branch : Branch → Branch
   written_branch branch = record { tests = branch.tests; arm = or_nothing branch.arm }
 
--- the statement is what is written of the other, whatever the items of cells, and wherever such
--- procedures are
+-- the statement is what is written of the other, whatever the items of cells, with procedures at
+-- these places
 abbrev pub IsWritten : List ProcedurePlace → (stmt made : Stmt) → Type 0
 IsWritten places stmt made =
     (way : Way) → ArePlaced way.place places → seen 0 made ≡ written way (seen 0 stmt)
@@ -80,6 +80,7 @@ abbrev pub AreWhensWritten : List ProcedurePlace → (whens made : List When) �
 AreWhensWritten places whens made = (way : Way) → ArePlaced way.place places →
     map (seen_when 0) made ≡ map (written_branch way) (map (seen_when 0) whens)
 
--- it is written as it is
+-- the statement is what is written of the other, whatever the items of cells and the places of
+-- procedures
 abbrev pub IsWrittenAlike : (stmt made : Stmt) → Type 0
 IsWrittenAlike stmt made = (way : Way) → seen 0 made ≡ written way (seen 0 stmt)

@@ -29,7 +29,7 @@ put_arms empty first [] = done
 put_arms empty first (stmts ∷ others) =
     put_arm (empty first) stmts (put_arms empty (suc first) others)
 
--- which of these arms are written, the first of which has this number
+-- whether each of these arms is written, the first of which has this number
 abbrev pub stand_so : (ℕ → Empty) → ℕ → List Stmts → List Bool
 stand_so empty first [] = []
 stand_so empty first (stmts ∷ others) =
@@ -48,7 +48,7 @@ abbrev pub IsChosen : List CellItem → code.Picker → List (List Stmt) → Stm
 IsChosen cells by lists made =
     EachWay cells (λ way. seen 0 made ≡ chosen way (seen_picker by) (map (seen_stmts 0) lists))
 
--- by no cell
+-- the statement is the choice among these arms by a chooser, and by no cell
 abbrev pub IsOwnChoice : Chooser → List (List Stmt) → Stmt → Type 0
 IsOwnChoice chooser lists made = (way : Way) →
     seen 0 made ≡ chosen way (By (seen_chooser chooser)) (map (seen_stmts 0) lists)
@@ -90,7 +90,7 @@ abbrev pub continued : List Stmts → Arms → Arms
 continued [] others = others
 continued (stmts ∷ lists) others = put_arm Continues stmts (continued lists others)
 
--- with these tests, and WHEN OTHER
+-- the statement is the EVALUATE with these tests and arms, and WHEN OTHER where there is one
 abbrev pub IsAmong : Subject → List (List Test) → List Stmts → (other : Stmts) →
     (has_other : Bool) → Stmt → Type 0
 IsAmong subject tests lists other has_other made = (length tests ≡ length lists)

@@ -34,7 +34,7 @@ pub record AreItems (way : Way) (cells : List CellItem) : Type 0 where
 abbrev pub IsItemOf : List CellItem → (cell : ℕ) → CellItem → Type 0
 IsItemOf cells cell found = (slice_get cells cell ≡ Some found) × (found.item < 2 ^ 31)
 
--- of each way with these items
+-- it holds of each way with these items
 abbrev pub EachWay : List CellItem → (Way → Type 0) → Type 0
 EachWay cells Holds = (way : Way) → AreItems way cells → Holds way
 

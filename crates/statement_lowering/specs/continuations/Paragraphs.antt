@@ -25,7 +25,7 @@ use Rattle.statement_lowering.specs.declared.continuations.continuation.Continua
 use Rattle.statement_lowering.specs.continuations.Successors.{Lowering, begun}
 use Rattle.statement_lowering.specs.continuations.Statements.{Adds, Agrees, AllFit, AreRests, told}
 
--- after the last sentence is the paragraph's end
+-- the begin after the last sentence: the paragraph's end
 abbrev pub paragraph_end : Begin
 paragraph_end = record { after = leaf.Return; behind = None }
 
@@ -55,7 +55,7 @@ AreBegins layout place (sentence ∷ others) (first ∷ next ∷ found) =
 abbrev pub sentence_sizes : List Sentence → ℕ
 sentence_sizes sentences = sum_by sentence_size sentences
 
--- and the first of them on top
+-- the begins of these sentences are stacked, the first of them on top
 pub record AreStacked (layout : PlaceTable) (place : ℕ) (sentences : List Sentence)
     (found : List Begin) : Type 0 where
   pub firsts : List Begin
@@ -139,7 +139,7 @@ pub record HasParagraph (telling : LoweringContext) (g : Lowering telling.layout
       (nodes_of_paragraph (told telling.layout.now g) g.place_of (left_at g.ends number) place
       (seen_paragraph last paragraph))
 
--- its rests are added
+-- the rests of a paragraph are added
 abbrev pub AddsParagraph : LoweringContext → Paragraph → (number last : ℕ) →
     (old new : List Continuation) →
     Type 0
@@ -165,7 +165,7 @@ graph_of telling program range layout = record {
   returning = telling.returning.now;
 }
 
--- at each place of a program its rest, in each range
+-- there is at each place of a program its rest, in each range
 pub record AreRestsOf (telling : LoweringContext) (program : Program)
     (spots : List Continuation) : Type 0 where
   -- there is a rest for each place

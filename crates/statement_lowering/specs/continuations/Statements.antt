@@ -20,7 +20,7 @@ use Rattle.statement_lowering.specs.declared.continuations.continuation.Successo
 use Rattle.statement_lowering.specs.declared.continuations.continuation.Continuation.{Continuation}
 use Rattle.statement_lowering.specs.continuations.Successors.{Lowering, leaving_by, after_by, behind_by, GoesLater}
 
--- from one label to below another the graph has these nodes, and no others
+-- the graph has these nodes from one label to below another, and no others
 abbrev pub Agrees : (graph.Label → graph.Tree) → ℕ → ℕ → List lower.Node → Type 0
 Agrees node low high nodes =
     (label : ℕ) → low ≤ label → label < high → node label ≡ find label nodes
@@ -110,7 +110,7 @@ AddsRests layout stmts onward old new =
 abbrev pub inner_places : Stmt → ℕ
 inner_places stmt = stmt_places stmt - 1
 
--- after this place the graph has the nodes of a statement there
+-- the graph has the nodes of a statement after this place
 abbrev pub HasInner : (layout : PlaceTable) (g : Lowering layout) → language.Stmt → ℕ → ℕ →
     Successors →
     Type 0
@@ -125,7 +125,7 @@ AddsWithin layout stmt place onward old new =
     Adds layout (inner_places stmt)
     (λ g. HasInner layout g (seen onward.last stmt) place (inner_places stmt) onward) old new
 
--- of the body of a loop
+-- the rests of the body of a loop are added
 abbrev pub AddsTurns : PlaceTable → Control → List Stmt → ℕ → Successors →
     (old new : List Continuation) → Type 0
 AddsTurns layout control turns place onward old new =
@@ -133,7 +133,7 @@ AddsTurns layout control turns place onward old new =
     (λ g. HasInner layout g (loop_of (control_in control) (seen_stmts onward.last turns)) place
     (sum_by stmt_places turns) onward) old new
 
--- of arms
+-- the rests of arms are added
 abbrev pub AddsArms : PlaceTable → (ℕ → language.Arms) → ℕ → Successors →
     (old new : List Continuation) → Type 0
 AddsArms layout arms places onward old new =
@@ -150,7 +150,7 @@ branch_arms whens last = branches_before (map (seen_when last) whens) language.d
 abbrev pub phrase_alone : Option (List Stmt) → ℕ → language.Arms
 phrase_alone phrase last = arm_before (seen_phrase last phrase) language.done
 
--- one rest more
+-- one rest more is added
 pub record AddsContinuation (stmts : List Stmt) (onward : Successors)
     (old new : List Continuation) : Type 0 where
   pub spot : Continuation

@@ -27,7 +27,7 @@ pub record Lowering (layout : PlaceTable) : Type 0 where
   pub files : List FileEntry
   pub returning : List (List ℕ)
 
--- this end in the place of the paragraph's
+-- the end that leads to a target, with this end in the place of the paragraph's
 abbrev pub ended : graph.End → JumpTarget → graph.End
 ended end (leaf.Jump to) = graph.Jump to
 ended end leaf.Return = end
@@ -82,7 +82,7 @@ pub record IsBefore (layout : PlaceTable) (rest : List Stmt) (place : ℕ)
     -- all else is the same
     pub same : new ≡ record old { after = new.after; behind = begun rest place old.behind }
 
--- and in the body of a loop at a place
+-- the new successors are the old ones in the body of a loop at a place
 pub record IsInLoop (control : Option language.Control) (place : ℕ) (old new : Successors) : Type 0
   where
     -- control goes on at the loop's next turn

@@ -133,12 +133,12 @@ begun kind behind index scan =
 
 -- ---- the tokens from the left
 
--- after this token, where a header may begin with it or not
+-- the scan after this token, where a header may begin with it or not
 abbrev pub turned : (may_head : Bool) → TokenKind → List Token → (index : ℕ) → Scan → Scan
 turned true kind behind index scan = begun kind behind index scan
 turned false kind behind index scan = scan
 
--- after these tokens
+-- the scan after these tokens
 unfoldable pub scanned : List Token → (may_head : Bool) → (index : ℕ) → Scan → Scan
 scanned [] may_head index scan = scan
 scanned (t ∷ ts) may_head index scan =
@@ -156,7 +156,7 @@ closed scan = record scan.found { count = at_least_one (whole_count scan) }
 abbrev pub procedures_of : List Token → (index : ℕ) → ProcedureTable
 procedures_of tokens index = closed (scanned tokens true index start)
 
--- no more names, sections and paragraphs than this
+-- the scan found no more names, sections and paragraphs than this
 pub record IsWithin (limit : ℕ) (scan : Scan) : Type 0 where
   pub names : length scan.found.names ≤ limit
   -- the sections

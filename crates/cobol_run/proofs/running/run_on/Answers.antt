@@ -1,9 +1,9 @@
-use Rattle.std.proofs.Common.{◌≡◌, ◌+◌, [], ◌∷◌, ◌∙◌, arith, map, refl, subst, take}
+use Rattle.std.proofs.Common.{◌≡◌, ◌+◌, [], ◌∷◌, ◌∙◌, arith, map, refl, subst, sym, take, vec_capacity}
 use Rattle.cob_base.specs.Sink.{sink_call}
 use Rattle.file_model.specs.contracts.operations.watched.BoxDynDeviceWatched.TheImpl.{seen-value}
 use Rattle.cobol_run.specs.declared.held.Plan.{Plan}
 use Rattle.cobol_run.specs.declared.running.Turned.TheVariants as turned
-use Rattle.cobol_run.specs.Falling.{TurnFalls}
+use Rattle.cobol_run.specs.Falling.{NamesFit, TurnFalls}
 use Rattle.cobol_run.specs.Over.{OpenYet}
 use Rattle.file_model.specs.operations.Calls.{addresses_of}
 use Rattle.file_model.specs.operations.Falling.{is_used, name_behind}
@@ -125,7 +125,7 @@ returns-in-Failed-clause-ends g c =
 pub returns-in-Failed-clause-memory : goal.returns-in-Failed-clause-memory
 returns-in-Failed-clause-memory g c = λ is.
     let fell = turn_after turned.Failed c.args.machine.now.plan.program.now.files c.args.bench.now.left c.loop-turn.bench.left c.make_turn.new.bench.left (map (seen-value g.dyn-1).it c.args.bench.now.devices.items) (map (seen-value g.dyn-1).it c.loop-turn.bench.devices.items) (map (seen-value g.dyn-1).it c.make_turn.new.bench.devices.items) c.make_turn.new.machine.table.rows c.loop-turn.invariant.falls (subst (λ (p : Plan). TurnFalls turned.Failed p.program.now.files c.loop-turn.bench.left c.make_turn.new.bench.left (map (seen-value g.dyn-1).it c.loop-turn.bench.devices.items) (map (seen-value g.dyn-1).it c.make_turn.new.bench.devices.items) c.make_turn.new.machine.table.rows) c.loop-turn.invariant.plan c.in-Failed.ensures.falls) in
-    absurd (never_unnamed _ c.device_fault.result (is_used (addresses_of c.args.machine.now.plan.program.now.files)) [] (name_behind c.make_turn.new.bench.left (map (seen-value g.dyn-1).it c.make_turn.new.bench.devices.items)) c.args.bench.now.left c.make_turn.new.bench.left _ (map (seen-value g.dyn-1).it c.args.bench.now.devices.items) (map (seen-value g.dyn-1).it c.make_turn.new.bench.devices.items) c.requires fell.0 (omega arith) c.device_fault.ensures.named is)
+    absurd (never_unnamed _ c.device_fault.result (is_used (addresses_of c.args.machine.now.plan.program.now.files)) [] (name_behind c.make_turn.new.bench.left (map (seen-value g.dyn-1).it c.make_turn.new.bench.devices.items)) c.args.bench.now.left c.make_turn.new.bench.left _ (map (seen-value g.dyn-1).it c.args.bench.now.devices.items) (map (seen-value g.dyn-1).it c.make_turn.new.bench.devices.items) (subst (λ room. NamesFit (vec_capacity room) (map (seen-value g.dyn-1).it c.args.bench.now.devices.items)) (sym c.loop-turn.invariant.room) c.requires) fell.0 (omega arith) c.device_fault.ensures.named is)
 
 pub returns-in-NoMemory-clause-memory : goal.returns-in-NoMemory-clause-memory
 returns-in-NoMemory-clause-memory g c = λ is.

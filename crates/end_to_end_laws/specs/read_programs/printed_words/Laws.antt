@@ -6,7 +6,8 @@ use Rattle.cobol_read.specs.LeftOut.{first_left_out}
 use Rattle.round_trip.specs.printable.Whole.{IsPrintableProgram}
 use Rattle.cobol_print.specs.units.Division.{program_units}
 
--- its names aren't left out, and no other word that it is printed with is, nor is the sign of power
+-- no word that a printable program is printed with is left out, be it a name or not, nor is the
+-- sign of power
 abbrev pub NoPrintedWordIsLeftOut : Type 0
 NoPrintedWordIsLeftOut =
     (program : Program) → IsPrintableProgram program →

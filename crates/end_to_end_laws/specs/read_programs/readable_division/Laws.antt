@@ -14,7 +14,8 @@ use Rattle.end_to_end_laws.specs.read_programs.readable_programs.Readable.{own_n
 use Rattle.round_trip.specs.procedures.Own.{AreLabelled}
 use Rattle.round_trip.specs.procedures.readable_stmts.Fit.{PartsFit}
 
--- where what its procedures are called in the source is named by labels where they are printed
+-- what is read of a source is spelled again, where what its procedures are called is named by
+-- labels where they are printed
 abbrev pub ReadPartsFit : Type 0
 ReadPartsFit =
     (program : Program) (source table : ProcedureTable) → AreLabelled source table program →

@@ -18,7 +18,8 @@ use Rattle.end_to_end_laws.specs.read_programs.readable_parts.Read.{EachStatus, 
 abbrev pub own_names : Program → Names
 own_names program = names_of program.files program.entries
 
--- where no fault is noted
+-- the names of a program's files and records, and its status items, are spelled again where no
+-- fault is noted
 pub record AreReadable (program : Program) : Type 0 where
   -- the name of a file gives one that is spelled again
   pub file : Gives IsPrintable (file (own_names program)) (IsFitFile (own_names program) program)
@@ -30,16 +31,16 @@ pub record AreReadable (program : Program) : Type 0 where
       Gives IsPrintable (status (own_names program) program.entries)
       (λ place. SpellsStatus (status (own_names program) program.entries) program (Some place))
 
--- the parts of each program are readable, over its own names
+-- the names of each program are readable so
 abbrev pub NamesAreReadable : Type 0
 NamesAreReadable = (program : Program) → AreReadable program
 
--- their names may be names, and their values are literals
+-- the names of programs that are read may be names, and their values are literals
 abbrev pub ProgramsThatAreReadAreTitled : Type 0
 ProgramsThatAreReadAreTitled =
     (bytes : List ℕ) (program : Program) → Reads bytes program → IsTitled program
 
--- their files and entries keep the rules, in some sections
+-- the files and entries of programs that are read keep the rules, in some sections
 abbrev pub ProgramsThatAreReadKeepRules : Type 0
 ProgramsThatAreReadKeepRules =
     (bytes : List ℕ) (program : Program) → Reads bytes program →
@@ -49,7 +50,7 @@ ProgramsThatAreReadKeepRules =
 abbrev pub HasFitStatuses : Program → Type 0
 HasFitStatuses program = EachStatus (IsFitStatus (own_names program) program) program.files
 
--- their status items are fit
+-- the status items of programs that are read are fit
 abbrev pub ProgramsThatAreReadHaveFitStatuses : Type 0
 ProgramsThatAreReadHaveFitStatuses =
     (bytes : List ℕ) (program : Program) → Reads bytes program →
@@ -61,7 +62,7 @@ FitStatusesAreStated =
     (program : Program) → HasFitStatuses program →
     AreStated (status (own_names program) program.entries) program program.files
 
--- their status items are spelled by their tokens
+-- the status items of programs that are read are spelled by their tokens
 abbrev pub ProgramsThatAreReadAreStated : Type 0
 ProgramsThatAreReadAreStated =
     (bytes : List ℕ) (program : Program) → Reads bytes program →

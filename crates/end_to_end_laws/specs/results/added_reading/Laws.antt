@@ -7,7 +7,7 @@ use Rattle.round_trip.specs.declarations.added_entries.Items.{WholeItem, HasAdde
 use Rattle.round_trip.specs.declarations.fresh_items.Laws.{MayBeAdded}
 use Rattle.end_to_end_laws.specs.results.added_reading.Declaring.{DeclaresReadably}
 
--- they have fewer words than 2^30
+-- programs that are read have fewer words than 2^30
 abbrev pub ProgramsThatAreReadHaveFewWords : Type 0
 ProgramsThatAreReadHaveFewWords =
     (bytes : List ℕ) (program : Program) → Reads bytes program →

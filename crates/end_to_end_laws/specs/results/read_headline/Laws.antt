@@ -11,13 +11,13 @@ use Rattle.procedure_split.specs.Splitting.{IsSplit}
 use Rattle.procedure_split.specs.split_behaviour.Alike.{IsWellMade}
 use Rattle.pending_returns.specs.FaultFree.{IsFaultFree}
 
--- they are well made
+-- programs that are read are well made
 abbrev pub ProgramsThatAreReadAreWellMade : Type 0
 ProgramsThatAreReadAreWellMade =
     (bytes : List ℕ) (program : Program) → Reads bytes program → IsWellMade program
 
--- where flow has no fault, what the bytes are split into is structured, and behaves as they do over
--- all files
+-- what the bytes of a program without a fault of flow are split into is structured, and behaves as
+-- they do over all files
 abbrev pub ProgramsThatAreReadBehaveAlike : Type 0
 ProgramsThatAreReadBehaveAlike =
     (bytes : List ℕ) (program made : Program) (summary : Summary) → Reads bytes program →

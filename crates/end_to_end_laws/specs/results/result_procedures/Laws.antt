@@ -46,7 +46,8 @@ pub record AreTitles (names : List (List ℕ)) : Type 0 where
   pub titled : Each IsTitle names
   pub different : AreDifferent names
 
--- where those of the program's own procedures are such
+-- the names of procedures may be names of paragraphs, where those of the program's own procedures
+-- may
 abbrev pub ProcedureNamesAreTitles : Type 0
 ProcedureNamesAreTitles =
     (program : Program) (order : List Range) → HasProcedures program →
@@ -60,7 +61,8 @@ ProcedureNamesArePrintable =
 
 -- ---- paragraphs
 
--- they are told apart by their headers, and none has the name of another one
+-- the procedures of a program that is read are told apart by their headers, and none has the name
+-- of another one
 abbrev pub ProgramsThatAreReadHaveProcedures : Type 0
 ProgramsThatAreReadHaveProcedures =
     (bytes : List ℕ) (program : Program) → Reads bytes program → HasProcedures program
@@ -95,13 +97,13 @@ IsFilled sentence = is_filled sentence.stmts ≡ true
 abbrev pub AreFilled : List Paragraph → Type 0
 AreFilled paragraphs = Each (λ paragraph. Each IsFilled paragraph.sentences) paragraphs
 
--- as in whatever is written of procedures
+-- each sentence of a program that is written of procedures has a statement
 abbrev pub WrittenSentencesAreFilled : Type 0
 WrittenSentencesAreFilled =
     (program : Program) (naming : Naming) (procedures : List Procedure) →
     control_of program ≡ rendered naming procedures → AreFilled program.paragraphs
 
--- where all statements pass tests
+-- the sentences of a structured program fit, where all its statements pass the tests
 abbrev pub StructuredSentencesFit : Type 0
 StructuredSentencesFit =
     (fits : Fits) (program : Program) → IsStructured program →
@@ -118,7 +120,7 @@ Spell fits program =
     (parts_of (own_names program) program.entries (own_procedures program (tokens_before program)))
     (kept_of (own_names program) program) program fits
 
--- where its sentences fit, be it structured or not
+-- the tokens of a program whose sentences fit spell it, be it structured or not
 abbrev pub FitProgramsAreSpelled : Type 0
 FitProgramsAreSpelled =
     (fits : Fits) (program : Program) → HasProcedures program → Spell fits program →

@@ -13,7 +13,7 @@ abbrev pub is_exit : Stmt → Bool
 is_exit Exit = true
 is_exit _ = false
 
--- such an EXIT is the one statement
+-- the only statement is EXIT without a further word
 abbrev pub is_lone_exit : List Stmt → Bool
 is_lone_exit [] = false
 is_lone_exit (stmt ∷ []) = is_exit stmt
@@ -35,6 +35,6 @@ paragraph_exits_alone paragraph = sentences_exit_alone paragraph.sentences
 abbrev pub paragraphs_exit_alone : List Paragraph → Bool
 paragraphs_exit_alone paragraphs = all (map paragraph_exits_alone paragraphs)
 
--- no other sentence is or holds one
+-- each EXIT without a further word is the only statement of its paragraph
 abbrev pub exits_alone : Program → Bool
 exits_alone program = paragraphs_exit_alone program.paragraphs

@@ -13,15 +13,16 @@ use Rattle.grammar_laws.specs.form_results.Giving.{Gives}
 use Rattle.grammar_laws.specs.form_results.Numbered.{IsNumbered}
 use Rattle.grammar_laws.specs.well_scoped.named_exprs.Sides.{AreDeclared}
 
--- over the names and entries of a program and the procedures of these tokens, where none of them is
--- more than there are
+-- there are no more names and entries of a program, and procedures of these tokens, than are
+-- counted
 pub record AreCounted (names : Names) (entries : List Entry) (table : ProcedureTable)
     (counts : Counts) : Type 0 where
   pub declared : AreDeclared names counts
   pub items : length entries ≤ counts.items
   pub told : table.count ≤ counts.paragraphs
 
--- without a name fault, it gives paragraphs whose statements name what is there
+-- the PROCEDURE DIVISION, read without a name fault, gives paragraphs whose statements name what is
+-- there
 abbrev pub DivisionGives : Type 0
 DivisionGives =
     (names : Names) (entries : List Entry) (tokens : List Token) (from : ℕ) (counts : Counts) →

@@ -21,7 +21,8 @@ pub record SidesGive (names : Names) (counts : Counts) : Type 0 where
   pub expr : Gives IsNumbered (whole_expr names) (λ side. what_named counts side.what ≡ true)
   pub cond : Gives IsNumbered (whole_cond names) (λ found. cond_named counts found.0 ≡ true)
 
--- so they give, over names that are declared
+-- references, expressions and conditions give what names what is there, over names that are
+-- declared
 abbrev pub ExpressionsGive : Type 0
 ExpressionsGive = (names : Names) (counts : Counts) → AreDeclared names counts →
     SidesGive names counts

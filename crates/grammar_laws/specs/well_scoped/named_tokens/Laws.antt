@@ -6,7 +6,7 @@ use Rattle.cobol_lex.specs.declared.token.Token.{Token}
 use Rattle.grammar_laws.specs.form_results.Giving.{AreOf}
 use Rattle.grammar_laws.specs.form_results.Numbered.{IsNumbered}
 
--- in the tokens of a text each number is a number
+-- each number in the tokens of a text is a number
 abbrev pub TokensAreNumbered : Type 0
 TokensAreNumbered =
     (text : List Placed) (tokens : List Token) → tokens_of text ≡ Ok tokens →

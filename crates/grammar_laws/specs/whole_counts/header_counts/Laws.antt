@@ -9,7 +9,8 @@ use Rattle.symbol_tables.specs.procedure_names.Procedures.{procedures_of}
 use Rattle.cobol_grammar.specs.stmt_forms.Paragraph.{division}
 use Rattle.cobol_grammar.specs.Whole.{parts_of}
 
--- of the tokens after the division's header, however many come before them
+-- the headers of the tokens after the division's header count its paragraphs, however many tokens
+-- come before them
 abbrev pub HeadersCountTheParagraphs : Type 0
 HeadersCountTheParagraphs =
     (names : Names) (entries : List Entry) (table : ProcedureTable) →

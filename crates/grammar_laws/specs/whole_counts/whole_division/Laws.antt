@@ -10,7 +10,7 @@ use Rattle.grammar_laws.specs.form_results.Numbered.{IsNumbered}
 use Rattle.grammar_laws.specs.whole_counts.whole_entries.Fitting.{NamesFit}
 use Rattle.grammar_laws.specs.whole_counts.whole_stmts.Paragraph.{paragraphs_count_whole}
 
--- without a name fault, its paragraphs count by whole numbers
+-- the paragraphs of a PROCEDURE DIVISION, read without a name fault, count by whole numbers
 abbrev pub DivisionCountsWhole : Type 0
 DivisionCountsWhole =
     (names : Names) (entries : List Entry) (table : ProcedureTable) → NamesFit names entries →

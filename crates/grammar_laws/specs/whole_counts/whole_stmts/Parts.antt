@@ -9,12 +9,12 @@ use Rattle.grammar_laws.specs.form_results.Giving.{Gives}
 use Rattle.grammar_laws.specs.form_results.Numbered.{IsNumbered}
 
 module _ (entries : List Entry) {Side Known : Type 0} (parts : Parts Side Known) where
-  -- without such a fault, the side is a whole number as an operand
+  -- the side is a whole number as an operand, where no such fault is noted of it
   abbrev pub IsWholeAmount : Side → Type 0
   IsWholeAmount side =
       parts.whole_fault side ≡ None → amount_is_whole entries (parts.operand_of side) ≡ true
 
-  -- without such a fault, the side is an item for whole numbers
+  -- the side is an item for whole numbers, where no such fault is noted of it
   abbrev pub IsWholeItem : Side → Type 0
   IsWholeItem side =
       parts.whole_fault side ≡ None → place_is_whole entries (parts.place_of side) ≡ true

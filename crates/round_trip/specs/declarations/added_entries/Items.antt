@@ -13,7 +13,7 @@ use Rattle.control_flow_theory.specs.language.All.{all}
 use Rattle.program_facts.specs.well_scoped.Part.{if_any}
 use Rattle.parser_combinators.specs.words.Word.{is_data_word}
 
--- its name, how many digits it has, and whether it has a sign
+-- an item of whole numbers: its name, how many digits it has, and whether it has a sign
 pub record WholeItem : Type 0 where
   pub name : List ℕ
   pub digits : ℕ
@@ -55,7 +55,7 @@ AreSized (item ∷ items) = (1 ≤ item.digits) × (item.digits ≤ 18) × AreSi
 abbrev pub has_title : WholeItem → Bool
 has_title item = is_data_word item.name
 
--- their names may be names
+-- the names of these items may be names
 abbrev pub AreTitled : List WholeItem → Type 0
 AreTitled items = all (map has_title items) ≡ true
 

@@ -6,7 +6,7 @@ use Rattle.out_names.specs.Words.{program_words, table_of}
 use Rattle.round_trip.specs.declarations.added_entries.Items.{WholeItem, AreSized, AreTitled, AreDifferent, AreNew}
 use Rattle.round_trip.specs.declarations.fresh_items.Fresh.{AreShort, fresh_items}
 
--- they can follow the program's entries
+-- these items can follow the program's entries
 pub record MayBeAdded (program : Program) (items : List WholeItem) : Type 0 where
   pub sized : AreSized items
   pub titled : AreTitled items

@@ -109,7 +109,7 @@ abbrev pub SpansFit : LiteralTarget → List Span → Type 0
 SpansFit target [] = Unit {0}
 SpansFit target (span ∷ spans) = SpanFits target span × SpansFit target spans
 
--- they fit the item with this number
+-- these values fit the item with this number
 abbrev pub FitAt : Program → List Span → ℕ → Option Entry → Type 0
 FitAt program spans item None = Unit {0}
 FitAt program spans item (Some entry) =

@@ -13,7 +13,7 @@ use Rattle.program_facts.specs.well_scoped.Part.{if_any}
 use Rattle.round_trip.specs.fitting_statements.Fits.{Fits}
 use Rattle.round_trip.specs.fitting_statements.Statement.{some_pass, fit_calc, fit_subject, fit_test, fit_into, fit_stmt}
 
--- no label and no range passes
+-- the tests, which no label and no range passes
 abbrev pub without_jumps : Fits → Fits
 without_jumps fits =
     record fits { label = λ number. false; range = λ entry exit. false }
@@ -100,7 +100,7 @@ module _ (fits : Fits) where
     StmtFits (ExitPerform cycle) = Unit {0}
     StmtFits StopRun = Unit {0}
 
-    -- these statements do
+    -- these statements pass
     pub StmtsFit : Stmts → Type 0
     StmtsFit none = Unit {0}
     StmtsFit (also stmt stmts) = StmtFits stmt × StmtsFit stmts
@@ -111,7 +111,7 @@ module _ (fits : Fits) where
     ArmsFit (given arm others) = IsFilled arm × StmtsFit arm × ArmsFit others
     ArmsFit (missing others) = ArmsFit others
 
-    -- under this control
+    -- the body of a loop passes, under this control
     pub BodyFits : Control → Body → Type 0
     BodyFits control (Nested stmts) = IsFilled stmts × StmtsFit stmts × TurnsFit control
     BodyFits control (Performed entry exit) = fits.range entry exit ≡ true

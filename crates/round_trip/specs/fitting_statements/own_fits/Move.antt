@@ -11,13 +11,14 @@ abbrev pub may_fill : ExprContent → (whole : Bool) → Bool
 may_fill makes.Literal whole = whole
 may_fill make whole = true
 
--- no number with decimals goes to text
+-- a number may be moved to such a kind: none with decimals goes to text
 abbrev pub number_may_move : ExprContent → (whole : Bool) → (to : ValueKind) → Bool
 number_may_move make whole kinds.Text = whole
 number_may_move make whole kinds.Group = may_fill make whole
 number_may_move make whole to = true
 
--- no figurative constant but ZERO, which is a number, goes to a number
+-- a value may be moved to such a kind: no figurative constant but ZERO, which is a number, goes to
+-- a number
 abbrev pub may_move : ExprContent → (from to : ValueKind) → Bool
 may_move make (kinds.Number whole) to = number_may_move make whole to
 may_move make kinds.Figure to = not (is_number to)

@@ -31,7 +31,7 @@ use Rattle.round_trip.specs.fitting_statements.own_fits.Room.{operand_has_room, 
 abbrev pub has_value : ValueKind → Bool
 has_value kind = not (is_condition kind)
 
--- it can be printed so that it is read back, and is of such a kind
+-- the operand can be printed so that it is read back, and is of such a kind
 abbrev pub is_fit_as : (ValueKind → Bool) → Judged → Bool
 is_fit_as is_kind judged = judged.fit && is_kind judged.kind
 
@@ -159,6 +159,7 @@ module _ (program : Program) where
     range = range;
   }
 
-  -- where each label and range passes, as in a program that is read
+  -- the tests of the parts of a source, which each label and range passes, as in a program that is
+  -- read
   abbrev pub source_fits : Fits
   source_fits = own_fits (λ number. true) (λ entry exit. true)

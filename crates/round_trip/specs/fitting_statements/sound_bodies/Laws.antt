@@ -15,7 +15,7 @@ RulesKeepSoundness =
     (begins : Simple → Bool) (graph : Graph) → NodesAreSound begins two_arms graph.nodes →
     NodesAreSound begins two_arms (closed_graph graph).nodes
 
--- so are the procedures of a source that is
+-- the procedures of a source that is sound are sound
 abbrev pub ProceduresAreSound : Type 0
 ProceduresAreSound =
     (begins : Simple → Bool) (plan : Plan) (program : Program) →

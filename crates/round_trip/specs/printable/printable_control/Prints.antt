@@ -62,12 +62,12 @@ abbrev mutual
   StmtPrints (ExitPerform cycle) = Unit {0}
   StmtPrints StopRun = Unit {0}
 
-  -- these statements
+  -- these statements can be printed
   pub StmtsPrint : Stmts → Type 0
   StmtsPrint none = Unit {0}
   StmtsPrint (also stmt stmts) = StmtPrints stmt × StmtsPrint stmts
 
-  -- these arms
+  -- these arms can be printed
   pub ArmsPrint : Arms → Type 0
   ArmsPrint done = Unit {0}
   ArmsPrint (given arm others) = StmtsPrint arm × ArmsPrint others

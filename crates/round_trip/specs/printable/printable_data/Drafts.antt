@@ -35,7 +35,7 @@ abbrev pub entry_printable : EntryDraft → Bool
 entry_printable entry =
     if_any is_printable_name entry.name && all (map clause_printable entry.clauses)
 
--- these entries
+-- these entries can be printed
 abbrev pub entries_printable : List EntryDraft → Bool
 entries_printable entries = all (map entry_printable entries)
 

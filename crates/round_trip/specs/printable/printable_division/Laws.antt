@@ -9,7 +9,8 @@ use Rattle.grammar_laws.specs.form_results.Giving.{Gives, Each}
 use Rattle.round_trip.specs.printable.printable_tokens.Printable.{IsPrintable}
 use Rattle.round_trip.specs.printable.Whole.{IsPrintableParagraph}
 
--- over the names, entries and procedures of a program
+-- the PROCEDURE DIVISION, read of tokens that can be printed, gives paragraphs that can be, over
+-- the names, entries and procedures of a program
 abbrev pub DivisionsPrint : Type 0
 DivisionsPrint =
     (names : Names) (entries : List Entry) (table : ProcedureTable) →

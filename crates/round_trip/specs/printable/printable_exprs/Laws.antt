@@ -9,7 +9,7 @@ use Rattle.round_trip.specs.printable.printable_tokens.Printable.{IsPrintable}
 use Rattle.round_trip.specs.printable.Beside.{is_printable_cond}
 use Rattle.round_trip.specs.printable.printable_exprs.Sides.{is_printable_what}
 
--- of tokens that can be printed, what can be printed
+-- references, expressions and conditions that are read of tokens that can be printed can be printed
 pub record SidesPrint (names : Names) : Type 0 where
   pub reference : Gives IsPrintable (data_reference names)
       (λ side. is_printable_what side.what ≡ true)
@@ -21,6 +21,6 @@ pub record SidesPrint (names : Names) : Type 0 where
   pub expr : Gives IsPrintable (whole_expr names) (λ side. is_printable_what side.what ≡ true)
   pub cond : Gives IsPrintable (whole_cond names) (λ found. is_printable_cond found.0 ≡ true)
 
--- so they do over any names
+-- expressions can be printed so over any names
 abbrev pub ExpressionsArePrintable : Type 0
 ExpressionsArePrintable = (names : Names) → SidesPrint names

@@ -24,7 +24,7 @@ pub record SidesAreReadable (names : Names) (program : Program) : Type 0 where
   pub expr : Gives IsPrintable (whole_expr names) (IsReadableExpr names program)
   pub cond : Gives IsPrintable (whole_cond names) (λ found. IsReadableCond names program found.0)
 
--- so they do in each program
+-- expressions can be read again in each program
 abbrev pub ExpressionsAreReadable : Type 0
 ExpressionsAreReadable = (names : Names) (program : Program) →
     names ≡ names_of program.files program.entries → SidesAreReadable names program

@@ -16,7 +16,7 @@ use Rattle.round_trip.specs.spelling.expr_spelling.Spelled.{IsOperandSide, IsExp
 use Rattle.round_trip.specs.spelling.cond_spelling.Printable.{IsPrintableCond}
 
 module _ (names : Names) (program : Program) where
-  -- which has room after so many terms
+  -- an operand that can be printed and read again, which has room after so many terms
   pub record IsReadableOperand (most : ℕ) (side : Side) : Type 0 where
     -- it can be printed so
     pub fit : IsPrintableOperand names program (operand_of side.what)
@@ -25,7 +25,7 @@ module _ (names : Names) (program : Program) where
     -- the same is known of it
     pub kept : IsOperandSide names program (operand_of side.what) side
 
-  -- a reference alone isn't counted itself
+  -- a reference that can be printed and read again; alone it isn't counted itself
   pub record IsReadablePlace (side : Side) : Type 0 where
     -- it can be printed so
     pub fit : IsPrintablePlace names program (place_of side.what)

@@ -14,7 +14,7 @@ module _ {Side Known : Type 0} (parts : Parts Side Known) (kept : Kept Side) (pr
   where
     -- ---- headers
 
-    -- a section's header has three tokens
+    -- the headers of a paragraph are spelled; that of a section has three tokens
     abbrev pub IsHeaded : (taken : ℕ) → (name section : Option (List ℕ)) → Type 0
     IsHeaded taken None None = Unit {0}
     IsHeaded taken (Some name) None = SpellsHeader parts kept program name taken
@@ -23,7 +23,7 @@ module _ {Side Known : Type 0} (parts : Parts Side Known) (kept : Kept Side) (pr
         SpellsHeader parts kept program section taken
         × SpellsHeader parts kept program name (taken + 3)
 
-    -- after so many tokens
+    -- the headers of these paragraphs are spelled, after so many tokens
     abbrev pub AreHeaders : (taken : ℕ) → List Paragraph → Type 0
     AreHeaders taken [] = Unit {0}
     AreHeaders taken (paragraph ∷ paragraphs) =

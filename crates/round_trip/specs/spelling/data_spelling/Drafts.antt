@@ -112,7 +112,7 @@ pub record IsSelect (file : FileEntry) (draft : SelectDraft) : Type 0 where
   pub assign : draft.assign ≡ file.assign
   pub status : IsStatus file.status draft.statuses
 
--- one for each file
+-- there is one draft for each file, which says what it is
 abbrev pub AreSelects : List FileEntry → List SelectDraft → Type 0
 AreSelects [] [] = Unit {0}
 AreSelects (file ∷ files) (draft ∷ drafts) = IsSelect file draft × AreSelects files drafts
@@ -128,7 +128,7 @@ pub record IsFd (program : Program) (fd : Fd) (draft : FdDraft) : Type 0 where
   pub name : draft.name ≡ file_title (slice_get program.files fd.number)
   pub entries : AreDrafts program (records fd) draft.entries
 
--- one for each FD
+-- there is one draft for each FD, which says what it is
 abbrev pub AreFds : Program → List Fd → List FdDraft → Type 0
 AreFds program [] [] = Unit {0}
 AreFds program (fd ∷ fds) (draft ∷ drafts) = IsFd program fd draft × AreFds program fds drafts

@@ -7,7 +7,7 @@ use Rattle.cobol_print.specs.Unit.{all_tokens}
 use Rattle.round_trip.specs.spelling.data_spelling.Kinds.{divisions_kinds}
 use Rattle.round_trip.specs.spelling.data_spelling.Sections.{Fd, IsSorted}
 
--- these tokens come before those of the PROCEDURE DIVISION
+-- the tokens of these divisions come before those of the PROCEDURE DIVISION
 abbrev pub DivisionsHaveTokens : Type 0
 DivisionsHaveTokens =
     (program : Program) (fds : List Fd) (storage : List Entry) →

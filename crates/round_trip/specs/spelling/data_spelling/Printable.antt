@@ -15,7 +15,7 @@ use Rattle.round_trip.specs.spelled_forms.Spelling.{Spelled}
 use Rattle.unparser.specs.Place.{place_tokens, item_name}
 use Rattle.round_trip.specs.spelling.data_spelling.Sections.{Fd, records}
 
--- no place
+-- the operand is no place
 abbrev pub IsLiteral : Operand → Type 0
 IsLiteral (operands.Place place) = ⊥
 IsLiteral _ = Unit {0}
@@ -38,7 +38,8 @@ AreLiteralSpans (span ∷ spans) = IsLiteralSpan span × AreLiteralSpans spans
 abbrev pub IsDataWord : List ℕ → Type 0
 IsDataWord word = is_data_word word ≡ true
 
--- its name, if it has one, may be a name, as may that of what it redefines; its values are literals
+-- an entry: its name, if it has one, may be a name, as may that of what it redefines; its values
+-- are literals
 pub record IsPrintableEntry (program : Program) (entry : Entry) : Type 0 where
   pub named : IfAny IsDataWord entry.name
   -- what it redefines may be named, if it redefines something
@@ -48,7 +49,7 @@ pub record IsPrintableEntry (program : Program) (entry : Entry) : Type 0 where
   -- the values of a level 88 are literals
   pub ranged : AreLiteralSpans entry.ranges
 
--- these entries
+-- these entries can be printed
 abbrev pub ArePrintableEntries : Program → List Entry → Type 0
 ArePrintableEntries program [] = Unit {0}
 ArePrintableEntries program (entry ∷ entries) =
@@ -72,7 +73,7 @@ pub record IsPrintableFile (status : Form Place) (program : Program) (file : Fil
   -- its status item is spelled
   pub stated : SpellsStatus status program file.status
 
--- these files
+-- these files can be printed
 abbrev pub ArePrintableFiles : Form Place → Program → List FileEntry → Type 0
 ArePrintableFiles status program [] = Unit {0}
 ArePrintableFiles status program (file ∷ files) =
@@ -87,7 +88,7 @@ pub record IsPrintableFd (program : Program) (fd : Fd) : Type 0 where
   -- its records can be printed
   pub written : ArePrintableEntries program (records fd)
 
--- these FDs
+-- these FDs can be printed
 abbrev pub ArePrintableFds : Program → List Fd → Type 0
 ArePrintableFds program [] = Unit {0}
 ArePrintableFds program (fd ∷ fds) = IsPrintableFd program fd × ArePrintableFds program fds

@@ -46,8 +46,8 @@ arm_ends =
 abbrev pub closings : Words
 closings = ends ++ arm_ends
 
--- after a list whose last statement is closed by a word of its own, if it is one that arms may
--- follow, or isn't
+-- the words that may end a list of statements; where its last one is closed by a word of its own,
+-- those that end arms may too
 abbrev pub ends_of : (closed : Bool) → Words
 ends_of true = closings
 ends_of false = ends
@@ -91,7 +91,7 @@ BehindStmt behind = Among behind_stmts behind
 abbrev pub EndsStmt : Option TokenKind → Type 0
 EndsStmt behind = Among (verbs ++ closings) behind
 
--- after an expression or the name of a procedure
+-- what may follow an expression or the name of a procedure
 abbrev pub BehindPart : Option TokenKind → Type 0
 BehindPart behind = Among behind_parts behind
 

@@ -20,7 +20,7 @@ use Rattle.round_trip.specs.spelled_forms.Spelling.{Any, Spelled}
 use Rattle.round_trip.specs.spelling.stmt_spelling.Part.{Kept}
 use Rattle.round_trip.specs.spelling.stmt_spelling.Stmt.{Each, SpellsList}
 
--- of a section that has neither a named paragraph nor sentences
+-- nothing is printed but the header of a section: it has neither a named paragraph nor sentences
 abbrev pub is_bare_by : (name section : Option (List ℕ)) → List Sentence → Bool
 is_bare_by None (Some section) [] = true
 is_bare_by _ _ _ = false
@@ -60,7 +60,8 @@ module _ {Side Known : Type 0} (parts : Parts Side Known) (kept : Kept Side) (pr
     abbrev pub is_bare : Paragraph → Bool
     is_bare paragraph = is_bare_by paragraph.name paragraph.section paragraph.sentences
 
-    -- after a bare section only a section may follow
+    -- a paragraph is spelled with its headers, after so many tokens; after a bare section only a
+    -- section may follow
     abbrev pub SpellsHeaded : (bare in_section : Bool) → (taken : ℕ) → (name section : Option
         (List ℕ)) → List Sentence → Type 0
     SpellsHeaded bare in_section taken None None sentences = ⊥
@@ -73,7 +74,7 @@ module _ {Side Known : Type 0} (parts : Parts Side Known) (kept : Kept Side) (pr
         SpellsHeader section taken
         × (SpellsHeader name (taken + 3) × SpellsSentences (scope_of true) sentences)
 
-    -- after so many tokens
+    -- these paragraphs are spelled, after so many tokens
     abbrev pub SpellsParagraphs : (bare in_section : Bool) → (taken : ℕ) → List Paragraph → Type 0
     SpellsParagraphs bare in_section taken [] = Unit {0}
     SpellsParagraphs bare in_section taken (paragraph ∷ paragraphs) =

@@ -41,7 +41,7 @@ pub record Kept (Side : Type 0) : Type 1 where
   pub entry : ℕ → Side → Type 0
 
 module _ {Side Known : Type 0} (parts : Parts Side Known) where
-  -- after an operand or a place: another one, or `=` too
+  -- what may follow an operand or a place: another one, or `=` too
   abbrev pub BehindOperand : Option TokenKind → Type 0
   BehindOperand behind =
       BehindPart behind

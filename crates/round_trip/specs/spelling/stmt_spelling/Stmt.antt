@@ -247,7 +247,7 @@ module _ {Side Known : Type 0} (parts : Parts Side Known) (kept : Kept Side) (pr
       abbrev pub SpellsStmt : Stmt → Type 0
       SpellsStmt stmt = SpellsShape (out-Stmt stmt)
 
-    -- one statement or more, with so many levels for what they hold
+    -- a list of one statement or more is spelled, with so many levels for what they hold
     unfoldable pub SpellsList : ℕ → Scope → List Stmt → Type 0
     SpellsList zero scope list = ⊥
     SpellsList (suc levels) scope list = Some_of (SpellsStmt (SpellsList levels) scope) list
