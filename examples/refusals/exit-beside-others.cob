@@ -1,0 +1,6 @@
+       IDENTIFICATION DIVISION.
+       PROGRAM-ID. BESIDE.
+       PROCEDURE DIVISION.
+       FIRST-PART.
+           DISPLAY "FIRST".
+           EXIT.

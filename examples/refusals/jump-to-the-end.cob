@@ -1,0 +1,14 @@
+       IDENTIFICATION DIVISION.
+       PROGRAM-ID. TO-THE-END.
+       PROCEDURE DIVISION.
+       MAIN-LINE.
+           PERFORM FIRST-PART THRU LAST-PART.
+           STOP RUN.
+       FIRST-PART.
+           DISPLAY "FIRST".
+       SECOND-PART.
+           PERFORM ODD-PART.
+       LAST-PART.
+           DISPLAY "LAST".
+       ODD-PART.
+           GO TO LAST-PART.

@@ -1,0 +1,13 @@
+       IDENTIFICATION DIVISION.
+       PROGRAM-ID. RELATIONS.
+       DATA DIVISION.
+       WORKING-STORAGE SECTION.
+       01 DAY-NUMBER PIC 9 VALUE 9.
+       PROCEDURE DIVISION.
+       LOOK-AT-DAY.
+           IF (DAY-NUMBER = 1 OR (DAY-NUMBER = 2 AND DAY-NUMBER < 5)) OR
+               DAY-NUMBER <= 8
+               DISPLAY "A DAY"
+           END-IF
+           DISPLAY "DONE"
+           STOP RUN.

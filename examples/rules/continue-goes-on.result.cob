@@ -1,0 +1,13 @@
+       IDENTIFICATION DIVISION.
+       PROGRAM-ID. GOES-ON.
+       DATA DIVISION.
+       WORKING-STORAGE SECTION.
+       01 DAY-NUMBER PIC 9 VALUE 9.
+       PROCEDURE DIVISION.
+       LOOK-AT-DAY.
+           IF DAY-NUMBER = 1
+               CONTINUE
+           END-IF
+           DISPLAY "ANY DAY"
+           DISPLAY "DONE"
+           STOP RUN.

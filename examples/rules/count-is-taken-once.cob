@@ -1,0 +1,14 @@
+       IDENTIFICATION DIVISION.
+       PROGRAM-ID. TAKEN-ONCE.
+       DATA DIVISION.
+       WORKING-STORAGE SECTION.
+       01 COINS PIC 9 VALUE 3.
+       PROCEDURE DIVISION.
+       SPEND.
+           PERFORM COINS TIMES
+               SUBTRACT 1 FROM COINS
+               DISPLAY COINS
+               IF COINS = 1 GO TO LAST-COIN END-IF
+           END-PERFORM.
+       LAST-COIN.
+           STOP RUN.

@@ -1,0 +1,20 @@
+       IDENTIFICATION DIVISION.
+       PROGRAM-ID. PHASES.
+       DATA DIVISION.
+       WORKING-STORAGE SECTION.
+       01 PHASE PIC 9 VALUE 0.
+       PROCEDURE DIVISION.
+       MAIN-LINE.
+           PERFORM DO-PHASE THRU PHASE-EXIT
+               VARYING PHASE FROM 0 BY 1 UNTIL PHASE > 4.
+           STOP RUN.
+       DO-PHASE.
+           GO TO WASH RINSE PHASE-EXIT DEPENDING ON PHASE.
+           DISPLAY "NO PHASE " PHASE.
+           GO TO PHASE-EXIT.
+       WASH.
+           DISPLAY "WASH".
+       RINSE.
+           DISPLAY "RINSE".
+       PHASE-EXIT.
+           EXIT.

@@ -1,0 +1,30 @@
+       IDENTIFICATION DIVISION.
+       PROGRAM-ID. CHOICES.
+       DATA DIVISION.
+       WORKING-STORAGE SECTION.
+       01 HOUR PIC 99 VALUE 0.
+       01 CLOSED PIC X VALUE "N".
+           88 SHUT VALUE "Y".
+       PROCEDURE DIVISION.
+       NEXT-HOUR.
+           EVALUATE HOUR
+               WHEN 0 THRU 6
+               WHEN 22 THROUGH 99 DISPLAY HOUR " NIGHT"
+               WHEN 12 GO TO NOON
+               WHEN NOT 13 THRU 99 DISPLAY HOUR " MORNING"
+               WHEN ANY DISPLAY HOUR " AFTERNOON"
+           END-EVALUATE.
+       LOOK-AT-DOOR.
+           EVALUATE TRUE
+               WHEN HOUR > 17 SET SHUT TO TRUE
+               WHEN HOUR > 8 AND < 12 DISPLAY "OPEN"
+               WHEN OTHER CONTINUE
+           END-EVALUATE.
+           EVALUATE FALSE
+               WHEN SHUT ADD 5 TO HOUR GO TO NEXT-HOUR
+           END-EVALUATE.
+           DISPLAY "SHUT AT " HOUR.
+           STOP RUN.
+       NOON.
+           IF SHUT THEN DISPLAY "NEVER" ELSE DISPLAY "NOON".
+           GO TO LOOK-AT-DOOR.

@@ -1,0 +1,18 @@
+       IDENTIFICATION DIVISION.
+       PROGRAM-ID. EXIT-INNER.
+       DATA DIVISION.
+       WORKING-STORAGE SECTION.
+       01 SHELF PIC 9.
+       01 BOOK PIC 9.
+       PROCEDURE DIVISION.
+       SEARCH-SHELVES.
+           PERFORM VARYING SHELF FROM 1 BY 1 UNTIL SHELF > 3
+               MOVE 0 TO BOOK
+               PERFORM WITH TEST AFTER UNTIL BOOK = 9
+                   ADD 1 TO BOOK
+                   IF BOOK < SHELF EXIT PERFORM CYCLE END-IF
+                   DISPLAY SHELF "," BOOK
+                   IF BOOK > SHELF EXIT PERFORM END-IF
+               END-PERFORM
+           END-PERFORM.
+           STOP RUN.

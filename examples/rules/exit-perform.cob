@@ -1,0 +1,13 @@
+       IDENTIFICATION DIVISION.
+       PROGRAM-ID. EXIT-LOOP.
+       DATA DIVISION.
+       WORKING-STORAGE SECTION.
+       01 STAIRS PIC 9 VALUE 0.
+       PROCEDURE DIVISION.
+       CLIMB.
+           PERFORM UNTIL STAIRS = 5
+               ADD 1 TO STAIRS
+               IF STAIRS = 3 EXIT PERFORM END-IF
+               DISPLAY STAIRS
+           END-PERFORM.
+           DISPLAY "REST".

@@ -1,0 +1,20 @@
+       IDENTIFICATION DIVISION.
+       PROGRAM-ID. EXIT-CALLED.
+       DATA DIVISION.
+       WORKING-STORAGE SECTION.
+       01 RAIN PIC 9 VALUE 0.
+       PROCEDURE DIVISION.
+       WEEK SECTION.
+       TWO-DAYS.
+           PERFORM ONE-DAY.
+           MOVE 1 TO RAIN.
+           PERFORM ONE-DAY.
+           STOP RUN.
+       ONE-DAY SECTION.
+       BREAKFAST.
+           DISPLAY "BREAKFAST".
+           IF RAIN = 1 EXIT SECTION.
+       WALK.
+           DISPLAY "WALK".
+       HOME.
+           DISPLAY "HOME".

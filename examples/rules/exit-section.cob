@@ -1,0 +1,12 @@
+       IDENTIFICATION DIVISION.
+       PROGRAM-ID. EXIT-SECT.
+       PROCEDURE DIVISION.
+       MORNING SECTION.
+       BREAKFAST.
+           DISPLAY "BREAKFAST".
+           EXIT SECTION.
+       WALK.
+           DISPLAY "WALK".
+       NOON SECTION.
+       LUNCH.
+           DISPLAY "LUNCH".

@@ -1,0 +1,7 @@
+       IDENTIFICATION DIVISION.
+       PROGRAM-ID. EXIT-SECT.
+       PROCEDURE DIVISION.
+       BREAKFAST.
+           DISPLAY "BREAKFAST"
+           DISPLAY "LUNCH"
+           STOP RUN.

@@ -1,0 +1,11 @@
+       IDENTIFICATION DIVISION.
+       PROGRAM-ID. NEVER-BACK.
+       PROCEDURE DIVISION.
+       MAIN-LINE.
+           PERFORM CHECK-IN
+           STOP RUN.
+       CHECK-IN.
+           PERFORM FIND-ROOM.
+       FIND-ROOM.
+           DISPLAY "WE ARE FULL"
+           STOP RUN.

@@ -1,0 +1,28 @@
+       IDENTIFICATION DIVISION.
+       PROGRAM-ID. NAMELESS.
+       ENVIRONMENT DIVISION.
+       INPUT-OUTPUT SECTION.
+       FILE-CONTROL.
+           SELECT NOTHING-THERE ASSIGN TO "NULL:NOTHING".
+       DATA DIVISION.
+       FILE SECTION.
+       FD NOTHING-THERE.
+       01 NO-RECORD PIC X(8).
+       WORKING-STORAGE SECTION.
+       01 RX-FLAG-1 PIC 9 VALUE 0.
+       PROCEDURE DIVISION.
+       RX-PARA-1.
+           OPEN INPUT NOTHING-THERE
+           MOVE 0 TO RX-FLAG-1
+           PERFORM UNTIL RX-FLAG-1 = 1
+               READ NOTHING-THERE
+                   AT END
+                       MOVE 1 TO RX-FLAG-1
+               END-READ
+           END-PERFORM
+           CLOSE NOTHING-THERE
+           PERFORM LAST-WORDS
+           STOP RUN.
+       LAST-WORDS.
+           DISPLAY "NOTHING"
+           DISPLAY "AT ALL".

@@ -1,0 +1,9 @@
+       IDENTIFICATION DIVISION.
+       PROGRAM-ID. UNREACHED.
+       PROCEDURE DIVISION.
+       MAIN-LINE.
+           PERFORM CLOSE-SHOP.
+           PERFORM MAIN-LINE.
+       CLOSE-SHOP.
+           DISPLAY "CLOSED".
+           STOP RUN.

@@ -1,0 +1,9 @@
+       IDENTIFICATION DIVISION.
+       PROGRAM-ID. BACKWARD.
+       PROCEDURE DIVISION.
+       MAIN-LINE.
+           PERFORM ROOF
+           STOP RUN.
+       ROOF.
+           DISPLAY "ROOF"
+           DISPLAY "CELLAR".

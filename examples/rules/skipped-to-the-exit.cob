@@ -1,0 +1,17 @@
+       IDENTIFICATION DIVISION.
+       PROGRAM-ID. SKIPPED.
+       DATA DIVISION.
+       WORKING-STORAGE SECTION.
+       01 MARKS PIC 9 VALUE 9.
+       PROCEDURE DIVISION.
+       MAIN-LINE.
+           PERFORM GRADE THRU GRADE-EXIT.
+           STOP RUN.
+       GRADE.
+           IF MARKS = 0 GO TO GRADE-EXIT.
+           DISPLAY "PASSED".
+           IF MARKS > 5
+               IF MARKS = 9 DISPLAY "WITH PRAISE" GO TO GRADE-EXIT
+               ELSE DISPLAY "WELL".
+       GRADE-EXIT.
+           EXIT.

@@ -1,0 +1,14 @@
+       IDENTIFICATION DIVISION.
+       PROGRAM-ID. NAME-TAKEN.
+       DATA DIVISION.
+       WORKING-STORAGE SECTION.
+       01 RX-STATE-1 PIC 9 VALUE 2.
+       PROCEDURE DIVISION.
+       STREET.
+           IF RX-STATE-1 = 1 GO TO KITCHEN.
+       HALL.
+           DISPLAY "HALL".
+       KITCHEN.
+           DISPLAY "KITCHEN".
+           IF RX-STATE-1 = 2 STOP RUN.
+           GO TO HALL.

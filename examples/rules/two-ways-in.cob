@@ -1,0 +1,14 @@
+       IDENTIFICATION DIVISION.
+       PROGRAM-ID. TWO-WAYS-IN.
+       DATA DIVISION.
+       WORKING-STORAGE SECTION.
+       01 DOOR PIC 9 VALUE 2.
+       PROCEDURE DIVISION.
+       STREET.
+           IF DOOR = 1 GO TO KITCHEN.
+       HALL.
+           DISPLAY "HALL".
+       KITCHEN.
+           DISPLAY "KITCHEN".
+           IF DOOR = 2 STOP RUN.
+           GO TO HALL.
