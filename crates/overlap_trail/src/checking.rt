@@ -32,13 +32,13 @@ pub fn leads(
     let mut paragraph = range.entry as usize;
     let mut taken = 0;
     let mut quiet = 0;
-    let context = LegContext {
-        range,
-        moves,
-        goal,
-        hops,
-    };
     'legs: loop {
+        let context = LegContext {
+            range,
+            moves: &*moves,
+            goal,
+            hops: &*hops,
+        };
         match one_leg(program, lemmas, context, paragraph, taken) {
             ParagraphStep::There => return true,
             ParagraphStep::Nowhere => return false,

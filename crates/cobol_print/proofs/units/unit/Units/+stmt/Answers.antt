@@ -20,8 +20,8 @@ stmt-returns-in_ok-list-in-If t c =
     subst (λ lines. OnOk c.held_by_else.result (c.held_by_else.new.self ≡ c.args.self.now ++ lines))
     (lines-If program c.args.stmt.now c.in-If.cond c.in-If.yes c.in-If.no column c.args.closed c.in-If.is)
     (added_on c.held_by_else.result c.args.self.now c.list.new.self c.held_by_else.new.self (head ++ met) unmet
-    (joined_on c.args.self.now c.head.new.self c.list.new.self head met c.in_ok-head.ensures
-    (subst (λ n. c.list.new.self ≡ c.head.new.self ++ list_lines (map (stmt_lines program) c.in-If.yes) n false)
+    (joined_on c.args.self.now c.statement_first_line.new.self c.list.new.self head met c.in_ok-statement_first_line.ensures
+    (subst (λ n. c.list.new.self ≡ c.statement_first_line.new.self ++ list_lines (map (stmt_lines program) c.in-If.yes) n false)
     c.deeper.ensures c.in_ok-list-in-If.ensures))
     c.held_by_else.ensures)
 
@@ -33,7 +33,7 @@ stmt-returns-in-Loop t c =
     let held : List PrintUnit = held_by_loop (map (stmt_lines program) c.in-Loop.body) column in
     subst (λ lines. OnOk c.held_by_loop.result (c.held_by_loop.new.self ≡ c.args.self.now ++ lines))
     (lines-Loop program c.args.stmt.now c.in-Loop.control c.in-Loop.body column c.args.closed c.in-Loop.is)
-    (added_on c.held_by_loop.result c.args.self.now c.head.new.self c.held_by_loop.new.self head held c.in_ok-head.ensures c.held_by_loop.ensures)
+    (added_on c.held_by_loop.result c.args.self.now c.statement_first_line.new.self c.held_by_loop.new.self head held c.in_ok-statement_first_line.ensures c.held_by_loop.ensures)
 
 pub stmt-returns-in-None : goal.stmt-returns-in-None
 stmt-returns-in-None t c =
@@ -47,7 +47,7 @@ stmt-returns-in-None t c =
     subst (λ lines. OnOk c.word.result (c.word.new.self ≡ c.args.self.now ++ lines))
     (append_assoc head whens end ∙ lines-Evaluate program c.args.stmt.now c.in-Evaluate.subject c.in-Evaluate.whens None column c.args.closed is)
     (added_on c.word.result c.args.self.now c.whens.new.self c.word.new.self (head ++ whens) end
-    (joined_on c.args.self.now c.head.new.self c.whens.new.self head whens c.in_ok-head.ensures c.in_ok-whens-in-Evaluate.ensures)
+    (joined_on c.args.self.now c.statement_first_line.new.self c.whens.new.self head whens c.in_ok-statement_first_line.ensures c.in_ok-whens-in-Evaluate.ensures)
     c.word.ensures)
 
 pub stmt-returns-in-Some : goal.stmt-returns-in-Some
@@ -62,5 +62,5 @@ stmt-returns-in-Some t c =
     subst (λ lines. OnOk c.other.result (c.other.new.self ≡ c.args.self.now ++ lines))
     (append_assoc head whens end ∙ lines-Evaluate program c.args.stmt.now c.in-Evaluate.subject c.in-Evaluate.whens (Some c.in-Some.stmts) column c.args.closed is)
     (added_on c.other.result c.args.self.now c.whens.new.self c.other.new.self (head ++ whens) end
-    (joined_on c.args.self.now c.head.new.self c.whens.new.self head whens c.in_ok-head.ensures c.in_ok-whens-in-Evaluate.ensures)
+    (joined_on c.args.self.now c.statement_first_line.new.self c.whens.new.self head whens c.in_ok-statement_first_line.ensures c.in_ok-whens-in-Evaluate.ensures)
     c.other.ensures)
