@@ -57,7 +57,7 @@ def table(found, said):
         proof, tests = (found.get((name, what), "") for what in ("proof", "tests"))
         rows.append(f"| `{name}` | {proof} | {tests} | {said.get(name, '')} |")
     sums = [sum(found.get((name, what), 0) for name in names) for what in ("proof", "tests")]
-    rows.append(f"| {len(names)} crates | {sums[0]} | {sums[1]} | |")
+    rows.append(f"| {len(names)} crates | {sums[0]} | {sums[1] or str()} | |")
     return "\n".join(rows) + "\n"
 
 

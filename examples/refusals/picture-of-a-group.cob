@@ -1,0 +1,9 @@
+       IDENTIFICATION DIVISION.
+       PROGRAM-ID. T.
+       DATA DIVISION.
+       WORKING-STORAGE SECTION.
+       01 G PIC 99.
+           05 N PIC 9.
+       PROCEDURE DIVISION.
+       A.
+           STOP RUN.

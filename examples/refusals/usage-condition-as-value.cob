@@ -1,0 +1,10 @@
+       IDENTIFICATION DIVISION.
+       PROGRAM-ID. T.
+       DATA DIVISION.
+       WORKING-STORAGE SECTION.
+       01 N PIC 9 VALUE 1.
+           88 FIRST-ONE VALUE 1.
+       PROCEDURE DIVISION.
+       A.
+           DISPLAY FIRST-ONE.
+           STOP RUN.

@@ -1,0 +1,10 @@
+       IDENTIFICATION DIVISION.
+       PROGRAM-ID. T.
+       DATA DIVISION.
+       WORKING-STORAGE SECTION.
+       01 N PIC 9V9 VALUE 1.5.
+       01 X PIC X(3) VALUE "1.5".
+       PROCEDURE DIVISION.
+       A.
+           IF N = X DISPLAY "SAME".
+           STOP RUN.

@@ -1,0 +1,9 @@
+       IDENTIFICATION DIVISION.
+       PROGRAM-ID. T.
+       DATA DIVISION.
+       WORKING-STORAGE SECTION.
+       01 N PIC 9V9 VALUE 1.5.
+       PROCEDURE DIVISION.
+       A.
+           IF N = SPACE DISPLAY "NONE".
+           STOP RUN.

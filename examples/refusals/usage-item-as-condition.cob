@@ -1,0 +1,9 @@
+       IDENTIFICATION DIVISION.
+       PROGRAM-ID. T.
+       DATA DIVISION.
+       WORKING-STORAGE SECTION.
+       01 N PIC 9 VALUE 1.
+       PROCEDURE DIVISION.
+       A.
+           IF N DISPLAY "ONE".
+           STOP RUN.

@@ -1,0 +1,8 @@
+       IDENTIFICATION DIVISION.
+       PROGRAM-ID. T.
+       DATA DIVISION.
+       WORKING-STORAGE SECTION.
+       01 T PIC 9 OCCURS 3.
+       PROCEDURE DIVISION.
+       A.
+           STOP RUN.

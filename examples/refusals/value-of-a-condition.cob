@@ -1,0 +1,9 @@
+       IDENTIFICATION DIVISION.
+       PROGRAM-ID. T.
+       DATA DIVISION.
+       WORKING-STORAGE SECTION.
+       01 N PIC 9.
+           88 LARGE VALUE "A".
+       PROCEDURE DIVISION.
+       A.
+           STOP RUN.

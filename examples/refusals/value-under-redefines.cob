@@ -1,0 +1,9 @@
+       IDENTIFICATION DIVISION.
+       PROGRAM-ID. T.
+       DATA DIVISION.
+       WORKING-STORAGE SECTION.
+       01 X PIC X(2).
+       01 N REDEFINES X PIC 99 VALUE 12.
+       PROCEDURE DIVISION.
+       A.
+           STOP RUN.

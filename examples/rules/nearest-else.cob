@@ -1,0 +1,23 @@
+       IDENTIFICATION DIVISION.
+       PROGRAM-ID. T.
+       DATA DIVISION.
+       WORKING-STORAGE SECTION.
+       01 N PIC 9 VALUE 2.
+       01 M PIC 9 VALUE 0.
+       PROCEDURE DIVISION.
+       A.
+           IF N = 1
+               GO TO Z
+           ELSE
+               IF N = 2
+                   IF M = 0 DISPLAY "NONE"
+                   ELSE DISPLAY "SOME"
+               END-IF.
+           EVALUATE N
+               WHEN 1 IF M = 0 DISPLAY "A" ELSE DISPLAY "B"
+               WHEN 2 ADD 9 TO M ON SIZE ERROR DISPLAY "C"
+                   NOT ON SIZE ERROR DISPLAY "D"
+               WHEN OTHER DISPLAY "E".
+           DISPLAY "DONE".
+       Z.
+           STOP RUN.

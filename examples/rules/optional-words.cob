@@ -1,0 +1,37 @@
+       IDENTIFICATION DIVISION.
+       PROGRAM-ID. T.
+       ENVIRONMENT DIVISION.
+       INPUT-OUTPUT SECTION.
+       FILE-CONTROL.
+           SELECT F ASSIGN TO "F.DAT".
+       DATA DIVISION.
+       FILE SECTION.
+       FD F.
+       01 R PIC X(4).
+       WORKING-STORAGE SECTION.
+       01 N PICTURE IS S9(2) USAGE IS DISPLAY
+               SIGN IS TRAILING SEPARATE CHARACTER VALUE IS -1.
+           88 SMALL VALUES ARE 1 THROUGH 3 7.
+       01 M PIC 9 VALUE 1.
+       PROCEDURE DIVISION.
+       A.
+           OPEN INPUT F.
+           CLOSE F.
+           OPEN I-O F.
+           READ F NEXT RECORD AT END GO TO Z.
+           REWRITE R END-REWRITE.
+           CLOSE F.
+           OPEN EXTEND F.
+           WRITE R FROM "LAST" END-WRITE.
+           CLOSE F.
+           IF N IS LESS THAN OR EQUAL TO M
+               OR N IS GREATER THAN OR EQUAL TO 8
+               DISPLAY "FAR" END-IF.
+           IF N IS NOT GREATER THAN 5 AND N NOT LESS 0
+               AND N IS NOT EQUAL TO M DISPLAY "NEAR".
+           PERFORM WITH TEST BEFORE UNTIL M IS EQUAL 3
+               ADD 1 TO M
+               DISPLAY M WITH NO ADVANCING
+           END-PERFORM.
+       Z.
+           STOP RUN.
