@@ -27,7 +27,7 @@ returns-in-Ok-clause-over g c =
 pub returns-in-Err-clause-over : goal.returns-in-Err-clause-over
 returns-in-Err-clause-over g c =
     let out = sink_call g.K.Sink.held g.K.Sink.faults c.args.out.now c.args.out.now in
-    inr (never-run _ out _ c.in-Err.refusal _ c.in-Err.ensures.only (λ is. c.in-Err.ensures.fault (ap Err is)) (c.in-Err.ensures.within tt) refl c.note.ensures, refl, refl)
+    inr (never-run _ out _ c.in-Err.refusal _ c.in-Err.ensures.only (λ is. c.in-Err.ensures.fault (ap Err is)) (c.in-Err.ensures.within refl) refl c.note.ensures, (refl, refl))
 
 pub returns-in-Ok-clause-devices : goal.returns-in-Ok-clause-devices
 returns-in-Ok-clause-devices g c = device_told c.args.steps c.run_source-came.result _ _ _ _ _ _ c.tell.ensures c.run_source-came.ensures.falls
