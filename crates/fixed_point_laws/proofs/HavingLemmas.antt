@@ -152,10 +152,10 @@ planned-having program summary returning order graphs flow by have =
     let told = flow_facts_of program.files returning in
     let control = control_of program in
     let some : 0 < length control.paragraphs = subst (λ n. 0 < n) (sym (seen-length 0 program.paragraphs)) flow.some in
-    let first = cobol-planned program summary returning order flow.items flow.paragraphs some flow.fair flow.is by in
+    let first = cobol-planned program summary returning order flow.items flow.paragraphs some flow.flow.never flow.flow.is by in
     let keep = kept_by told control order graphs have in
     let main : map seen_range order ≡ Main ∷ others_of order = all-as-planned order ∙ first.1.main in
-    let all = has-plan program summary returning order keep flow.items flow.paragraphs some flow.fair flow.is by (kept-reached told control order graphs have)
+    let all = has-plan program summary returning order keep flow.items flow.paragraphs some flow.flow.never flow.flow.is by (kept-reached told control order graphs have)
     (λ range within. kept-just told control order graphs have range (subst (λ l. In range l) (sym main) within)) in
     let apart : AreApart (map seen_range order) = subst (λ l. AreApart l) (sym main) (later-apart told control (Main ∷ others_of order) first.1.later) in
     let plan : Plan = record { told = told; keep = keep; others = others_of order } in

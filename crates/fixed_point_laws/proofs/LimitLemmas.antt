@@ -27,7 +27,7 @@ use Rattle.program_points.specs.numbering.Kind.{never_first_of}
 use Rattle.branch_tree.specs.Graph.{seen_graph}
 use Rattle.lowering_labels.specs.points.FallThrough.{seen_range}
 use Rattle.flow_graph.specs.graph_sizes.Sizing.{end_size, graph_size, node_size, tree_size}
-use Rattle.region_rewrite.specs.Shaping.{first_tree, max_nesting, result_nesting}
+use Rattle.region_rewrite.specs.Shaping.{first_tree, result_nesting}
 use Rattle.region_rewrite.specs.written_nesting.Nesting.{leaves_out, is_nothing, arm_level, nesting, stmt_nesting, body_nesting, arms_nesting}
 use Rattle.cobol_print.specs.Unit.{all_tokens}
 use Rattle.cobol_print.specs.units.Division.{program_units}
@@ -40,7 +40,7 @@ use Rattle.procedure_split.specs.Splitting.{IsSplit, IsSplitFault}
 use Rattle.procedure_split.specs.plan.Planned.{IsPlanOf}
 use Rattle.procedure_split.specs.shaped_ranges.Graphs.{HaveGraphs, total_size}
 use Rattle.procedure_split.specs.shaped_ranges.Laws.{HasFlow}
-use Rattle.cob_base.specs.Limit.{max_nodes}
+use Rattle.cob_base.specs.Limit.{max_nesting, max_nodes}
 use Rattle.procedure_split.specs.split_behaviour.Alike.{IsWellMade}
 use Rattle.pending_returns.specs.FaultFree.{IsFaultFree}
 use Rattle.procedure_split.specs.written_depth.Levels.{levels, stmt_levels, body_levels, arms_levels, least_levels, paragraph_levels, program_levels}
@@ -217,7 +217,7 @@ module _ (program made : Program) (summary other : Summary) (well : IsWellMade p
 
   flows_made : IsFaultFree made other
   flows_made = record {
-    fair = are-faultless made well_made.proper.own_items well_made.proper.own_paragraphs structured;
+    never = are-faultless made well_made.proper.own_items well_made.proper.own_paragraphs structured;
     is = summed;
   }
 
@@ -226,8 +226,7 @@ module _ (program made : Program) (summary other : Summary) (well : IsWellMade p
     items = well_made.proper.own_items;
     paragraphs = well_made.proper.own_paragraphs;
     some = some-there made.paragraphs well_made.fit.own.some;
-    fair = flows_made.fair;
-    is = summed;
+    flow = flows_made;
   }
 
   module _ (p : PlannedAgain made other) where

@@ -79,7 +79,7 @@ module _ (program made twice : Program) (summary other : Summary) (well : IsWell
 
   flows_made : IsFaultFree made other
   flows_made = record {
-    fair = are-faultless made well_made.proper.own_items well_made.proper.own_paragraphs structured;
+    never = are-faultless made well_made.proper.own_items well_made.proper.own_paragraphs structured;
     is = summed;
   }
 

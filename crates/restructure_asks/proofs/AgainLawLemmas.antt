@@ -20,7 +20,7 @@ use Rattle.restructure_asks.specs.Laws.{ResultComesAgain}
 use Rattle.restructure_asks.specs.Reading.{Tells}
 use Rattle.restructure_asks.specs.Status.{IsOneOf}
 use Rattle.restructure_asks.specs.Tool.{Ends, EndsOfText, IsDone, IsRefused}
-use Rattle.restructure_asks.specs.Writing.{Gains}
+use Rattle.cob_base.specs.giving.Giving.{Gains}
 
 module _ (are_fixed : ResultsAreFixed) (bytes : List ℕ) (is : IsResultText bytes) where
   -- it is restructured to itself

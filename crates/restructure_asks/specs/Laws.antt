@@ -24,7 +24,7 @@ use Rattle.restructure_asks.specs.Refusal.{refused_status, status_of}
 use Rattle.restructure_asks.specs.Answer.{Answer, IsDue}
 use Rattle.restructure_asks.specs.Running.{IsRunDue, IsRunDueOnFiles}
 use Rattle.restructure_asks.specs.Tool.{Ends, EndsWithFiles}
-use Rattle.restructure_asks.specs.Writing.{Gains}
+use Rattle.cob_base.specs.giving.Giving.{Gains}
 
 -- these are the words of the ask
 abbrev pub AreWordsOf : Ask → List (List ℕ) → Type 0

@@ -18,7 +18,6 @@ use Rattle.restructure_core.specs.Made.{IsMadeOf}
 use Rattle.restructure_core.specs.Fault.{of_read_refusal}
 use Rattle.restructure_core.specs.Pipeline.{IsUnread, IsPastRanges, IsFaultySource, PassesLimit, IsPastLimit, IsResultOf, IsRestructured, IsAccepted, HasCause, IsRefusedBy, IsRefusedByTrail, IsDoneWith, IsResultText}
 use Rattle.restructure_core.proofs.Ranges.{limits-same, within-past}
-use Rattle.restructure_core.proofs.ReadWell.{clear-flow}
 use Rattle.restructure_core.proofs.ReadingBack.{within-limits}
 use Rattle.restructure_core.proofs.OneResult.{limited-faultless, done-faultless, limits-one, done-unlimited, dones-one}
 
@@ -233,7 +232,7 @@ module _ (bytes : List ℕ) (outcome : Outcome) (done : IfOk outcome (IsRestruct
 
         fixed : IsFixed made
         fixed =
-            are_fixed source.0 h.program made is.summary h.reads (clear-flow h.program is.summary is.clear)
+            are_fixed source.0 h.program made is.summary h.reads is.clear.flow
             is.clear.few is.split.is (within-limits h.program h.result.made is h.result.within)
 
         from : IsOf made outcome → (again : Done) × (outcome ≡ Ok again) × (again.text ≡ bytes)
@@ -242,11 +241,11 @@ module _ (bytes : List ℕ) (outcome : Outcome) (done : IfOk outcome (IsRestruct
         from (limited g) = absurd (unlimited g.0 g.2)
           where
             unlimited : (limit : Limit) → PassesLimit made limit → ⊥
-            unlimited limit (inl before) = fixed.within before.summary limit before.clear.is before.past
+            unlimited limit (inl before) = fixed.within before.summary limit before.clear.flow.is before.past
             unlimited limit (inr long) =
-                let same = (fixed.again long.is.summary long.made long.is.clear.is long.is.split).0 in
+                let same = (fixed.again long.is.summary long.made long.is.clear.flow.is long.is.split).0 in
                 let none : None ≡ Some limit = sym h.result.within ∙ ap result_limit (sym same) ∙ long.past in
                 cc
         from (result g) =
-            let same = (fixed.again g.2.is.summary g.2.made g.2.is.clear.is g.2.is.split).0 in
+            let same = (fixed.again g.2.is.summary g.2.made g.2.is.clear.flow.is g.2.is.split).0 in
             (g.0, g.1, g.2.written ∙ ap printed same ∙ sym h.result.written ∙ source.3)

@@ -69,7 +69,7 @@ module _ (program result : Program) (writing : Writing) (are : AreMade program r
   in-order =
       all-as-planned are.order
       ∙ (cobol-planned program are.summary writing.returning are.order are.flow.items
-      are.flow.paragraphs some are.flow.fair are.flow.is are.by).1.main
+      are.flow.paragraphs some are.flow.flow.never are.flow.flow.is are.by).1.main
       ∙ ap (λ others. Main ∷ others) (sym are.planned.others)
 
   apart : AreApart ranges

@@ -36,12 +36,12 @@ are-planned = λ program summary returning order graphs flow by are.
     let control = control_of program in
     let some : 0 < length control.paragraphs = subst (λ n. 0 < n) (sym (seen-length 0 program.paragraphs)) flow.some in
     let first = cobol-planned program summary returning order flow.items flow.paragraphs some
-    flow.fair flow.is by in
+    flow.flow.never flow.flow.is by in
     let keep = kept_by told control order graphs are in
     let main : map seen_range order ≡ Main ∷ others_of order =
     all-seen order ∙ first.1.main in
     let all = has-plan program summary returning order keep flow.items flow.paragraphs some
-    flow.fair flow.is by (kept-reached told control order graphs are)
+    flow.flow.never flow.flow.is by (kept-reached told control order graphs are)
     (λ range within. kept-just told control order graphs are range
     (subst (λ l. In range l) (sym main) within)) in
     let apart : AreApart (map seen_range order) =

@@ -2,6 +2,7 @@
 use Rattle.std.specs.Prelude.{◌≡◌, true, All, IsSome, None}
 use Rattle.cob_tree.specs.declared.program.Paragraph.{Paragraph}
 use Rattle.cob_tree.specs.declared.program.Program.{Program}
+use Rattle.control_flow_theory.specs.language.Control.{control_of}
 use Rattle.control_flow_theory.specs.language.Structured.{IsStructured}
 use Rattle.program_facts.specs.whole_counts.Whole.{counts_whole}
 use Rattle.cobol_theory.specs.fit_programs.Fit.{IsFit}
