@@ -5,7 +5,7 @@
 //! call `whole_cond`.
 //!
 //! Trees are dropped by calls of `drop`, so a call that may stop while a tree is alive is in a
-//! `match`, without `?`: docs/PROOF_COSTS.md says why.
+//! `match`, without `?`: docs/CONTRIBUTING.md says why.
 #![tactic(auto)]
 
 mod condition;

@@ -1,0 +1,4 @@
+-- Sources that are run show what nested statements mean.
+pub mod SourceLemmas
+-- So do calls that run a source.
+pub mod AskLemmas
