@@ -1,0 +1,11 @@
+      * A window begins at a whole number.
+       IDENTIFICATION DIVISION.
+       PROGRAM-ID. WINDOW-DECIMALS.
+       DATA DIVISION.
+       WORKING-STORAGE SECTION.
+       01 TITLE PIC X(9) VALUE "CHAIRLADY".
+       01 SHARE PIC 9V9 VALUE 1.5.
+       PROCEDURE DIVISION.
+       FIRST-PART.
+           DISPLAY TITLE (SHARE:2).
+           STOP RUN.
