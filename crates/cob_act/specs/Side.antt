@@ -9,7 +9,7 @@ use Rattle.cob_act.specs.declared.side.ComparedSide.TheVariants.{Amount, Literal
 abbrev pub seen : ComparedSide → sides.Side
 seen (Amount number) = sides.Amount number
 seen (Literal number) = sides.Literal number.now
-seen (Item signed part sign bytes) = sides.Item signed part sign bytes.now
+seen (Item signed part storage bytes) = sides.Item signed part storage bytes.now
 seen Nought = sides.Nought
 seen (Bytes bytes) = sides.Bytes bytes.now
 seen (Filler byte) = sides.Filler byte

@@ -1,16 +1,23 @@
 //! ADD, SUBTRACT, MULTIPLY, DIVIDE and COMPUTE.
 
-ghost use Rattle.std.specs.Prelude.{◌≡◌, ◌∷◌, [], false, Ok};
+ghost use Rattle.std.specs.Prelude.{◌≡◌, ◌∷◌, [], false, Ok, option_copied};
 ghost use Rattle.cob_tree.specs.declared.calc.Calc.TheVariants.{Add};
-ghost use Rattle.cob_num.specs.Exact.{difference_of, product_of, sum_of};
+ghost use Rattle.cob_num.specs.Exact.{decimal, difference_of, product_of, sum_of};
+ghost use Rattle.edit_fields.specs.Field.{digits_of};
+ghost use Rattle.cob_store.specs.Area.{mask_at};
 ghost use Rattle.cob_store.specs.Place.{memory_of, number_at};
-ghost use Rattle.meanings.specs.statements.Arithmetic.{basis_of, both, calculated, divided, given, part_of, stored_in, summed, targeted, value_for};
+ghost use Rattle.cob_store.specs.Store.{shown_at};
+ghost use Rattle.meanings.specs.statements.Arithmetic.{basis_of, both, calculated, divided, edited_in, given, given_edited, kept_in, mask_part, part_of, stored_in, summed, targeted, value_for};
 ghost use Rattle.cob_act.specs.Arithmetic.{seen_basis, seen_read};
 ghost use Rattle.cob_act.specs.Moving.{outcome_of};
 
 use cob_num::{Dec, Stored, add, mul, quotient, sub};
-use cob_store::{Area, Form, Spot, Store, expr_value, kept, number_at, operand_value, reached};
-use cob_tree::{Abend, Calc, Operand, Place, Sign, Target};
+use cob_store::{
+    Area, Form, Reached, Spot, Storage, Store, expr_value, kept, mask_at, number_at, operand_value,
+    reached,
+};
+use cob_tree::{Abend, Calc, Operand, Place, Target};
+use edit_fields::{Digits, Mask};
 
 /// What is computed before the receivers: a value that each receiver gets, or one by which each is
 /// changed.
@@ -119,39 +126,57 @@ fn basis_of(areas: &[Area], store: &Store, calc: &Calc) -> Result<Basis, Abend>
     }
 }
 
-fn part_of(form: Form) -> u8
-    ensures { result ≡ part_of form }
+fn mask_part(mask: Option<&Mask>) -> u8
+    ensures { result ≡ mask_part (option_copied mask.entry) }
+{
+    match mask {
+        None => 0,
+        Some(mask) => mask.digits().part,
+    }
+}
+
+fn part_of(areas: &[Area], item: u32, form: Form) -> u8
+    ensures { result ≡ part_of (mask_at areas.now item) form }
 {
     match form {
         Form::Number { part, .. } => part,
+        Form::Edited => mask_part(mask_at(areas, item)),
         Form::Group => 0,
         Form::Text => 0,
     }
 }
 
-// The value for a receiver.
-fn value_for(store: &Store, spot: Spot, form: Form, basis: Basis) -> Result<Option<Dec>, Abend>
-    ensures { result
-        ≡ value_for (part_of form) (number_at store.now spot form) (seen_basis basis) }
+// The value for a receiver, a place of that item.
+fn value_for(
+    areas: &[Area],
+    store: &Store,
+    item: u32,
+    place: Reached,
+    basis: Basis,
+) -> Result<Option<Dec>, Abend>
+    ensures { result ≡ value_for (part_of (mask_at areas.now item) place.form)
+        (number_at store.now place.spot place.form) (seen_basis basis) }
 {
     match basis {
         Basis::Given(value) => Ok(value),
-        Basis::Quotient { dividend, divisor } => Ok(divided(part_of(form), dividend, divisor)),
+        Basis::Quotient { dividend, divisor } => {
+            Ok(divided(part_of(areas, item, place.form), dividend, divisor))
+        }
         Basis::Plus(value) => {
-            let old = number_at(store, spot, form)?;
+            let old = number_at(store, place.spot, place.form)?;
             Ok(sum(old, value))
         }
         Basis::Less(value) => {
-            let old = number_at(store, spot, form)?;
+            let old = number_at(store, place.spot, place.form)?;
             Ok(difference(old, value))
         }
         Basis::Times(value) => {
-            let old = number_at(store, spot, form)?;
+            let old = number_at(store, place.spot, place.form)?;
             Ok(product(old, value))
         }
         Basis::Over(value) => {
-            let old = number_at(store, spot, form)?;
-            Ok(divided(part_of(form), old, value))
+            let old = number_at(store, place.spot, place.form)?;
+            Ok(divided(part_of(areas, item, place.form), old, value))
         }
     }
 }
@@ -163,11 +188,11 @@ fn stored_in(
     guarded: bool,
     spot: Spot,
     signed: bool,
-    sign: Sign,
+    storage: Storage,
     stored: Stored,
 ) -> bool
     ensures { outcome_of store.new (Ok result)
-        ≡ stored_in guarded store.old spot signed sign stored }
+        ≡ stored_in guarded store.old spot signed storage stored }
 {
     if stored.size_error && guarded {
         return true;
@@ -175,38 +200,96 @@ fn stored_in(
     store.put_number(
         spot,
         signed,
-        sign,
+        storage,
         stored.value < 0,
         stored.value.unsigned_abs(),
     );
     stored.size_error
 }
 
-// Stores a value, where there is one; a receiver that gets none keeps its value, and had a size
-// error.
-fn given(
+// The number that an edited receiver keeps, in units of the mask's last decimal place.
+fn shown_number(stored: Stored, mask: &Mask) -> Option<Dec>
+    ensures { result ≡ decimal stored.value (digits_of mask.now).part }
+{
+    Dec::new(stored.value, mask.digits().part)
+}
+
+fn put_shown(store: &mut Store, spot: Spot, mask: &Mask, number: Option<Dec>)
+    ensures { store.new ≡ shown_at store.old spot mask.now number }
+{
+    match number {
+        None => {}
+        Some(number) => store.put_edited(spot, mask, number),
+    }
+}
+
+// The same for an edited receiver.
+fn edited_in(store: &mut Store, guarded: bool, spot: Spot, mask: &Mask, stored: Stored) -> bool
+    ensures { outcome_of store.new (Ok result)
+        ≡ edited_in guarded store.old spot mask.now stored }
+{
+    if stored.size_error && guarded {
+        return true;
+    }
+    put_shown(store, spot, mask, shown_number(stored, mask));
+    stored.size_error
+}
+
+fn kept_in(digits: Digits, rounded: bool, value: Option<Dec>) -> Option<Stored>
+    ensures { result ≡ kept_in digits rounded value }
+{
+    kept(value?, digits.whole, digits.part, rounded)
+}
+
+fn given_edited(
     store: &mut Store,
+    mask: Option<&Mask>,
     guarded: bool,
     spot: Spot,
-    form: Form,
     rounded: bool,
     value: Option<Dec>,
 ) -> bool
-    ensures { outcome_of store.new (Ok result) ≡ given guarded store.old spot form rounded value }
+    ensures { outcome_of store.new (Ok result)
+        ≡ given_edited (option_copied mask.entry) guarded store.old spot rounded value }
 {
-    match form {
+    let Some(mask) = mask else {
+        return true;
+    };
+    match kept_in(mask.digits(), rounded, value) {
+        None => true,
+        Some(stored) => edited_in(store, guarded, spot, mask, stored),
+    }
+}
+
+// Stores a value, where there is one, in a place of that item; a receiver that gets none keeps its
+// value, and had a size error.
+fn given(
+    areas: &[Area],
+    store: &mut Store,
+    guarded: bool,
+    item: u32,
+    place: Reached,
+    rounded: bool,
+    value: Option<Dec>,
+) -> bool
+    ensures { outcome_of store.new (Ok result)
+        ≡ given (mask_at areas.now item) guarded store.old place.spot place.form rounded value }
+{
+    let spot = place.spot;
+    match place.form {
+        Form::Edited => { given_edited(store, mask_at(areas, item), guarded, spot, rounded, value) }
         Form::Number {
             signed,
             whole,
             part,
-            sign,
+            storage,
         } => {
             let Some(number) = value else {
                 return true;
             };
             match kept(number, whole, part, rounded) {
                 None => true,
-                Some(stored) => stored_in(store, guarded, spot, signed, sign, stored),
+                Some(stored) => stored_in(store, guarded, spot, signed, storage, stored),
             }
         }
         Form::Group => true,
@@ -226,9 +309,10 @@ fn targeted_at(
         ≡ targeted areas.now guarded (seen_basis basis) store.old
         (record { place = place.now; rounded = rounded }) }
 {
+    let item = place.item;
     let place = reached(areas, store, place)?;
-    let value = value_for(store, place.spot, place.form, basis)?;
-    Ok(given(store, guarded, place.spot, place.form, rounded, value))
+    let value = value_for(areas, store, item, place, basis)?;
+    Ok(given(areas, store, guarded, item, place, rounded, value))
 }
 
 fn targeted(

@@ -58,10 +58,10 @@ fn is_number(side: ComparedSide) -> bool
     match side {
         ComparedSide::Item {
             signed,
-            sign,
+            storage,
             bytes,
             ..
-        } => number_in(signed, sign, bytes).is_some(),
+        } => number_in(signed, storage, bytes).is_some(),
         ComparedSide::Amount(_) => are_digits(side_bytes(side)),
         ComparedSide::Literal(_) => are_digits(side_bytes(side)),
         ComparedSide::Nought => are_digits(side_bytes(side)),

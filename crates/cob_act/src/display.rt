@@ -3,13 +3,13 @@
 ghost use Rattle.std.specs.Prelude.{◌≡◌, ◌++◌, IfOk, OnOk, [], Ok};
 ghost use Rattle.cob_store.specs.Answer.{and_then};
 ghost use Rattle.cob_store.specs.Place.{memory_of};
-ghost use Rattle.meanings.specs.statements.Display.{displayed, operand_shown};
+ghost use Rattle.meanings.specs.statements.Display.{digits_shown, displayed, number_shown, operand_shown, place_shown};
 ghost use Rattle.meanings.specs.statements.Text.{pointed, printed_number};
 ghost use Rattle.cob_act.specs.Display.{with_bytes};
 
 use cob_base::{NoMemory, Text};
-use cob_store::{Area, Store, figure_byte, reached};
-use cob_tree::{Abend, Number, Operand};
+use cob_store::{Area, Form, Storage, Store, figure_byte, number_in, put_signed, reached};
+use cob_tree::{Abend, Number, Operand, Sign};
 
 fn add_pointed(into: &mut Text, scale: u8, digits: &[u8]) -> Result<(), NoMemory>
     ensures { OnOk result (into.new ≡ into.old ++ pointed scale digits.now) }
@@ -33,6 +33,81 @@ pub fn add_number(into: &mut Text, number: &Number) -> Result<(), NoMemory>
     add_pointed(into, number.scale, number.digits.as_slice())
 }
 
+// Adds a number as an item has it that is stored in so many digits, the sign within the last.
+fn add_digits(
+    into: &mut Text,
+    signed: bool,
+    digits: u8,
+    number: Option<i128>,
+) -> Result<Result<(), Abend>, NoMemory>
+    ensures { IfOk result (λ answer. with_bytes answer into.new
+        ≡ and_then (digits_shown signed digits number) (λ more. Ok (into.old ++ more))) }
+{
+    let Some(number) = number else {
+        return Ok(Err(Abend::BadDigits));
+    };
+    let mut buffer = [0u8; 255];
+    let size = usize::from(digits);
+    put_signed(
+        &mut buffer[..size],
+        signed,
+        Storage::Digits(Sign::Within),
+        number < 0,
+        number.unsigned_abs(),
+    );
+    into.add(&buffer[..size])?;
+    Ok(Ok(()))
+}
+
+// Adds what is shown of a number item.
+fn add_stored(
+    into: &mut Text,
+    signed: bool,
+    storage: Storage,
+    bytes: &[u8],
+) -> Result<Result<(), Abend>, NoMemory>
+    ensures { IfOk result (λ answer. with_bytes answer into.new
+        ≡ and_then (number_shown signed storage bytes.now) (λ more. Ok (into.old ++ more))) }
+{
+    match storage {
+        Storage::Digits(_) => {
+            into.add(bytes)?;
+            Ok(Ok(()))
+        }
+        Storage::Binary(digits) => {
+            add_digits(into, signed, digits, number_in(signed, storage, bytes))
+        }
+        Storage::Packed(digits) => {
+            add_digits(into, signed, digits, number_in(signed, storage, bytes))
+        }
+    }
+}
+
+fn add_place(into: &mut Text, form: Form, bytes: &[u8]) -> Result<Result<(), Abend>, NoMemory>
+    ensures { IfOk result (λ answer. with_bytes answer into.new
+        ≡ and_then (place_shown form bytes.now) (λ more. Ok (into.old ++ more))) }
+{
+    match form {
+        Form::Number {
+            signed,
+            storage,
+            ..
+        } => add_stored(into, signed, storage, bytes),
+        Form::Group => {
+            into.add(bytes)?;
+            Ok(Ok(()))
+        }
+        Form::Edited => {
+            into.add(bytes)?;
+            Ok(Ok(()))
+        }
+        Form::Text => {
+            into.add(bytes)?;
+            Ok(Ok(()))
+        }
+    }
+}
+
 fn add_operand(
     areas: &[Area],
     store: &Store,
@@ -46,10 +121,7 @@ fn add_operand(
     match operand {
         Operand::Place(place) => match reached(areas, store, place) {
             Err(abend) => Ok(Err(abend)),
-            Ok(place) => {
-                into.add(store.bytes(place.spot))?;
-                Ok(Ok(()))
-            }
+            Ok(place) => add_place(into, place.form, store.bytes(place.spot)),
         },
         Operand::Number(number) => {
             add_number(into, number)?;

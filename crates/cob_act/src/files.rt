@@ -13,6 +13,8 @@ mod fault;
 mod record;
 mod status;
 
-pub use crate::files::acts::{ReadRequest, all_opened, all_shut, read_one, rewritten, written};
+pub use crate::files::acts::{
+    ReadRequest, WriteRequest, all_opened, all_shut, read_one, rewritten, written,
+};
 pub use crate::files::desk::close_left;
 pub use crate::files::fault::FileFault;

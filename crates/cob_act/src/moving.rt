@@ -1,9 +1,11 @@
 //! MOVE and SET.
 
-ghost use Rattle.std.specs.Prelude.{◌≡◌, ◌-◌, IfErr, IfOk, length};
+ghost use Rattle.std.specs.Prelude.{◌≡◌, ◌-◌, IfErr, IfOk, length, option_copied};
+ghost use Rattle.cob_tree.specs.declared.place.Place.{out-Place};
+ghost use Rattle.cob_store.specs.Area.{mask_at};
 ghost use Rattle.cob_store.specs.Store.{fitted, put_at};
 ghost use Rattle.cob_store.specs.Place.{reached};
-ghost use Rattle.meanings.specs.statements.Moving.{all_groups, moved, form_of, is_group, digits_of, none_is_bad, number_received, put_answer, receive, received, sender_bytes, sender_number, sender_text, sent, set, text_number};
+ghost use Rattle.meanings.specs.statements.Moving.{all_groups, moved, form_of, is_group, digits_of, none_is_bad, edited_received, figure_edited, number_edited, number_received, put_answer, receive, received, sender_bytes, sender_edited, sender_number, sender_text, sent, set, text_number};
 ghost use Rattle.meanings.specs.statements.Outcome.{each};
 ghost use Rattle.cob_act.specs.Moving.{outcome_of, seen_sender, seen_sent};
 
@@ -11,10 +13,11 @@ use crate::condition::spans_at;
 use cob_base::NoMemory;
 use cob_num::Dec;
 use cob_store::{
-    Area, Form, Spot, Store, area_at, figure_byte, kept, literal_value, number_in, number_of,
-    put_digits, reached,
+    Area, Form, Spot, Storage, Store, area_at, figure_byte, kept, literal_value, mask_at,
+    number_in, number_of, put_digits, reached,
 };
 use cob_tree::{Abend, Entry, Figure, Number, Operand, Place, Sign};
+use edit_fields::Mask;
 use std::slice::from_ref;
 
 /// A sender as it was read.
@@ -63,12 +66,13 @@ fn sent<'a>(asked: bool, form: Form, bytes: &'a [u8]) -> Result<Sender<'a>, Aben
 {
     match form {
         Form::Group => Ok(Sender::Grouped(bytes)),
+        Form::Edited => Ok(Sender::Spelled(bytes)),
         Form::Text => Ok(Sender::Spelled(bytes)),
         Form::Number {
             signed,
             whole,
             part,
-            sign,
+            storage,
         } => {
             let digits = u16::from(whole) + u16::from(part);
             if !asked {
@@ -78,7 +82,7 @@ fn sent<'a>(asked: bool, form: Form, bytes: &'a [u8]) -> Result<Sender<'a>, Aben
                     number: None,
                 });
             }
-            let number = number_of(number_in(signed, sign, bytes), part)?;
+            let number = number_of(number_in(signed, storage, bytes), part)?;
             Ok(Sender::Counted {
                 bytes,
                 digits,
@@ -93,7 +97,7 @@ fn text_number(bytes: &[u8]) -> Result<Dec, Abend>
     ensures { result ≡ text_number bytes.now }
 {
     let last = &bytes[bytes.len().saturating_sub(18)..];
-    number_of(number_in(false, Sign::Within, last), 0)
+    number_of(number_in(false, Storage::Digits(Sign::Within), last), 0)
 }
 
 fn none_is_bad(value: Option<Dec>) -> Result<Dec, Abend>
@@ -169,11 +173,11 @@ fn put_received(
     signed: bool,
     whole: u8,
     part: u8,
-    sign: Sign,
+    storage: Storage,
 ) -> Result<(), Abend>
     ensures { outcome_of store.new result
         ≡ put_answer store.old spot
-        (number_received signed whole part sign spot.length number) }
+        (number_received signed whole part storage spot.length number) }
 {
     match kept(number, whole, part, false) {
         None => Err(Abend::BadDigits),
@@ -181,7 +185,7 @@ fn put_received(
             store.put_number(
                 spot,
                 signed,
-                sign,
+                storage,
                 stored.value < 0,
                 stored.value.unsigned_abs(),
             );
@@ -190,16 +194,91 @@ fn put_received(
     }
 }
 
-// Puts what a receiver of that form gets.
-fn put_sent(store: &mut Store, spot: Spot, form: Form, sender: Sender) -> Result<(), Abend>
+fn put_edited_number(
+    store: &mut Store,
+    spot: Spot,
+    mask: &Mask,
+    number: Result<Dec, Abend>,
+) -> Result<(), Abend>
     ensures { outcome_of store.new result
-        ≡ put_answer store.old spot (received form spot.length (seen_sender sender.entry)) }
+        ≡ put_answer store.old spot (number_edited mask.now spot.length number) }
+{
+    let number = number?;
+    store.put_edited(spot, mask, number);
+    Ok(())
+}
+
+// ZERO is edited as a number; any other figure fills the item.
+fn put_edited_figure(
+    store: &mut Store,
+    spot: Spot,
+    mask: &Mask,
+    figure: Figure,
+) -> Result<(), Abend>
+    ensures { outcome_of store.new result
+        ≡ put_answer store.old spot (figure_edited mask.now spot.length figure) }
+{
+    match figure {
+        Figure::Zero => put_edited_number(store, spot, mask, none_is_bad(Dec::new(0, 0))),
+        _ => {
+            store.put_filler(spot, figure_byte(figure));
+            Ok(())
+        }
+    }
+}
+
+fn put_edited(store: &mut Store, spot: Spot, mask: &Mask, sender: Sender) -> Result<(), Abend>
+    ensures { outcome_of store.new result ≡ put_answer store.old spot
+        (sender_edited mask.now spot.length (seen_sender sender.entry)) }
+{
+    match sender {
+        Sender::Grouped(bytes) => {
+            store.put_bytes(spot, bytes);
+            Ok(())
+        }
+        Sender::Figured(figure) => put_edited_figure(store, spot, mask, figure),
+        _ => put_edited_number(store, spot, mask, sender_number(sender)),
+    }
+}
+
+// Puts what an edited item gets.
+fn put_masked(
+    store: &mut Store,
+    spot: Spot,
+    mask: Option<&Mask>,
+    sender: Sender,
+) -> Result<(), Abend>
+    ensures { outcome_of store.new result ≡ put_answer store.old spot
+        (edited_received (option_copied mask.entry) spot.length (seen_sender sender.entry)) }
+{
+    match mask {
+        None => {
+            put_text(store, spot, sender);
+            Ok(())
+        }
+        Some(mask) => put_edited(store, spot, mask, sender),
+    }
+}
+
+// Puts what a receiver of that form gets, a place of that item. Its mask is asked for only where
+// the item is edited.
+fn put_sent(
+    areas: &[Area],
+    store: &mut Store,
+    item: u32,
+    spot: Spot,
+    form: Form,
+    sender: Sender,
+) -> Result<(), Abend>
+    ensures { outcome_of store.new result ≡ put_answer store.old spot
+        (received (mask_at areas.now item) form spot.length (seen_sender sender.entry)) }
 {
     match form {
         Form::Group => {
             put_bytes(store, spot, sender);
             Ok(())
         }
+        Form::Edited => put_masked(store, spot, mask_at(areas, item), sender),
         Form::Text => {
             put_text(store, spot, sender);
             Ok(())
@@ -208,7 +287,7 @@ fn put_sent(store: &mut Store, spot: Spot, form: Form, sender: Sender) -> Result
             signed,
             whole,
             part,
-            sign,
+            storage,
         } => match sender {
             Sender::Grouped(bytes) => {
                 store.put_bytes(spot, bytes);
@@ -216,7 +295,7 @@ fn put_sent(store: &mut Store, spot: Spot, form: Form, sender: Sender) -> Result
             }
             _ => {
                 let number = sender_number(sender)?;
-                put_received(store, spot, number, signed, whole, part, sign)
+                put_received(store, spot, number, signed, whole, part, storage)
             }
         },
     }
@@ -224,10 +303,12 @@ fn put_sent(store: &mut Store, spot: Spot, form: Form, sender: Sender) -> Result
 
 fn receive(areas: &[Area], store: &mut Store, sender: Sender, place: &Place) -> Result<(), Abend>
     ensures { outcome_of store.new result
-        ≡ receive areas.now (seen_sender sender.entry) store.old (reached place.now) }
+        ≡ receive areas.now (seen_sender sender.entry) store.old (out-Place place.now).item
+        (reached place.now) }
 {
+    let item = place.item;
     let place = reached(areas, store, place)?;
-    put_sent(store, place.spot, place.form, sender)
+    put_sent(areas, store, item, place.spot, place.form, sender)
 }
 
 // Moves to each receiver, which is reached in the store that the ones before left.
@@ -238,8 +319,8 @@ fn receive_all(
     places: &[Place],
 ) -> Result<(), Abend>
     ensures { outcome_of store.new result
-        ≡ each (λ now place. receive areas.now (seen_sender sender.entry) now (reached place))
-        store.old places.now }
+        ≡ each (λ now place. receive areas.now (seen_sender sender.entry) now
+        (out-Place place).item (reached place)) store.old places.now }
 {
     for place in places {
         receive(areas, store, sender, place)?;

@@ -8,9 +8,10 @@ ghost use Rattle.cob_act.specs.Side.{seen, seen_answer};
 use crate::text::{byte_order, filler_order, literal_order, order_filler, text_order};
 use cob_num::{Dec, compare};
 use cob_store::{
-    Area, Form, Store, expr_value, figure_byte, literal_value, number_in, number_of, reached,
+    Area, Form, Storage, Store, expr_value, figure_byte, literal_value, number_in, number_of,
+    reached,
 };
-use cob_tree::{Abend, Expr, Figure, Number, Operand, Place, Sign};
+use cob_tree::{Abend, Expr, Figure, Number, Operand, Place};
 use std::cmp::Ordering;
 
 /// A side as it was read. A number item is decoded only where it is compared as a number.
@@ -21,7 +22,7 @@ pub enum ComparedSide<'a> {
     Item {
         signed: bool,
         part: u8,
-        sign: Sign,
+        storage: Storage,
         bytes: &'a [u8],
     },
     /// ZERO, which is a number, and is repeated where it is compared with text.
@@ -55,15 +56,16 @@ pub fn place_side<'a>(
         Form::Number {
             signed,
             part,
-            sign,
+            storage,
             ..
         } => Ok(ComparedSide::Item {
             signed,
             part,
-            sign,
+            storage,
             bytes,
         }),
         Form::Group => Ok(ComparedSide::Bytes(bytes)),
+        Form::Edited => Ok(ComparedSide::Bytes(bytes)),
         Form::Text => Ok(ComparedSide::Bytes(bytes)),
     }
 }
@@ -122,9 +124,9 @@ fn side_number(side: ComparedSide) -> Result<Dec, Abend>
         ComparedSide::Item {
             signed,
             part,
-            sign,
+            storage,
             bytes,
-        } => number_of(number_in(signed, sign, bytes), part),
+        } => number_of(number_in(signed, storage, bytes), part),
         ComparedSide::Nought => valued(Dec::new(0, 0)),
         _ => Err(Abend::OutOfRange),
     }

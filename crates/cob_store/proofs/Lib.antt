@@ -6,3 +6,7 @@ pub mod Occurrence
 pub mod Overlaid
 -- places of numbers alone
 pub mod KnownLemmas
+-- the sizes of items
+pub mod SizeLemmas
+-- what is put at spots
+pub mod PutLemmas

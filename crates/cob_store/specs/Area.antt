@@ -1,5 +1,5 @@
 -- What is known of where an item lies; no entry, no place.
-use Rattle.std.specs.Prelude.{ℕ, Option, Some, None}
+use Rattle.std.specs.Prelude.{ℕ, List, Option, Some, None, slice_get}
 use Rattle.cob_store.specs.declared.area.Area.{Area}
 
 -- the number of its root
@@ -16,3 +16,12 @@ start_of (Some area) = area.start
 abbrev pub size_of : Option Area → ℕ
 size_of None = 0
 size_of (Some area) = area.size
+
+-- the mask of an item that is edited
+abbrev pub mask_of : Option Area → Option (List ℕ)
+mask_of None = None
+mask_of (Some area) = area.mask
+
+-- that of the item with this number
+abbrev pub mask_at : List Area → ℕ → Option (List ℕ)
+mask_at areas item = mask_of (slice_get areas item)

@@ -3,6 +3,7 @@ use Rattle.std.specs.Prelude.{ℕ, ◌+◌, ◌-◌, max, Bool, false, if◌then
 use Rattle.cob_tree.specs.declared.picture.Picture.{Picture}
 use Rattle.cob_tree.specs.declared.picture.Picture.TheVariants as pictures
 use Rattle.cob_tree.specs.declared.picture.Sign.{Sign}
+use Rattle.cob_tree.specs.declared.picture.Usage.{Usage}
 use Rattle.cob_tree.specs.declared.entry.Entry.{Entry}
 use Rattle.cob_store.specs.declared.area.Area.{Area}
 use Rattle.cob_store.specs.declared.area.Areas.{Areas}
@@ -13,6 +14,7 @@ use Rattle.cob_store.specs.declared.laying.Laid.{Laid}
 use Rattle.cob_store.specs.declared.laying.Open.{Open}
 use Rattle.cob_store.specs.Area.{root_of, start_of}
 use Rattle.cob_store.specs.Size.{capped, is_apart, is_condition, sized, times}
+use Rattle.cob_store.specs.Store.{form_with}
 
 -- the groups that an item of this depth is in
 abbrev pub groups_of : ℕ → List Open → List Open
@@ -59,11 +61,14 @@ lengthened roots root size =
     else roots ++ size ∷ []
 
 -- the form of an item by its picture; one without a picture is a group
-abbrev pub form_by : Sign → Option Picture → Form
-form_by sign None = forms.Group
-form_by sign (Some (pictures.Number signed whole part)) = forms.Number signed whole part sign
-form_by sign (Some (pictures.Letters size)) = forms.Text
-form_by sign (Some (pictures.Any size)) = forms.Text
+abbrev pub form_by : Sign → Usage → Option Picture → Form
+form_by sign usage None = forms.Group
+form_by sign usage (Some picture) = form_with picture sign usage
+
+-- the mask of an item whose picture is edited
+abbrev pub mask_by : Option Picture → Option (List ℕ)
+mask_by (Some (pictures.Edited mask)) = Some mask
+mask_by _ = None
 
 -- where an item of this entry lies
 abbrev pub area_of : Entry → ℕ → ℕ → ℕ → List Dim → Area
@@ -72,7 +77,8 @@ area_of entry size root start dims =
       root = root;
       start = start;
       size = size;
-      form = form_by entry.sign entry.picture;
+      form = form_by entry.sign entry.usage entry.picture;
+      mask = mask_by entry.picture;
       dims = dims;
     }
 

@@ -16,6 +16,8 @@ pub mod Place
 pub mod ConstantPlace
 -- the store at the start of a run
 pub mod Starting
--- How long a program's items are, in bytes (ISO 1989:1985, PICTURE, OCCURS and REDEFINES
+-- How long a program's items are, in bytes (ISO 1989:1985, PICTURE, USAGE, OCCURS and REDEFINES
 -- clauses).
 pub mod sizes
+-- what the laws say of sizes, and of what is put
+pub mod Laws

@@ -96,10 +96,11 @@ OfMemory A = Memory → Answer A
 
 -- the number at a spot of this form; text has none
 abbrev pub number_at : Roots → Spot → Form → Answer Value
-number_at roots spot (forms.Number signed whole part sign) =
-    and_then (value_at roots spot (forms.Number signed whole part sign)) (λ number.
+number_at roots spot (forms.Number signed whole part storage) =
+    and_then (value_at roots spot (forms.Number signed whole part storage)) (λ number.
     Ok (Some number))
 number_at roots spot forms.Group = Ok None
+number_at roots spot forms.Edited = Ok None
 number_at roots spot forms.Text = Ok None
 
 -- the number at a place that was found

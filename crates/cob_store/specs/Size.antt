@@ -1,10 +1,16 @@
 -- How long items are, worked out from the last entry to the first.
 use Rattle.std.specs.Prelude.{ℕ, ◌+◌, ◌-◌, ◌*◌, ◌^◌, min, Bool, true, false, ◌||◌, if◌then◌else◌, nat_lt, ◌==◌, List, [], ◌∷◌, Option, Some, None}
+use Rattle.stored_forms.specs.Binary.{binary_size}
+use Rattle.stored_forms.specs.Packed.{packed_size}
+use Rattle.edit_fields.specs.Edited.{shown_size}
 use Rattle.cob_tree.specs.declared.picture.Picture.{Picture}
 use Rattle.cob_tree.specs.declared.picture.Picture.TheVariants as pictures
 use Rattle.cob_tree.specs.declared.picture.Sign.{Sign}
 use Rattle.cob_tree.specs.declared.picture.Sign.TheVariants.{Within, SeparateLeading, SeparateTrailing}
+use Rattle.cob_tree.specs.declared.picture.Usage.{Usage}
+use Rattle.cob_tree.specs.declared.picture.Usage.TheVariants as usages
 use Rattle.cob_tree.specs.declared.entry.Entry.{Entry}
+use Rattle.cob_store.specs.Number.{digit_count}
 use Rattle.cob_store.specs.declared.size.SizedItem.{SizedItem}
 
 -- a size or a start past the last number of 32 bits counts as that number
@@ -17,11 +23,18 @@ sign_size Within = 0
 sign_size SeparateLeading = 1
 sign_size SeparateTrailing = 1
 
+-- how many bytes a number has with so many digits before the point and after it
+abbrev pub number_size : Usage → Sign → ℕ → ℕ → ℕ
+number_size usages.Display sign whole part = whole + part + sign_size sign
+number_size usages.Binary sign whole part = binary_size (digit_count whole part)
+number_size usages.Packed sign whole part = packed_size (digit_count whole part)
+
 -- how many bytes an item with this picture has
-abbrev pub picture_size : Picture → Sign → ℕ
-picture_size (pictures.Number signed whole part) sign = whole + part + sign_size sign
-picture_size (pictures.Letters size) sign = size
-picture_size (pictures.Any size) sign = size
+abbrev pub picture_size : Picture → Sign → Usage → ℕ
+picture_size (pictures.Number signed whole part) sign usage = number_size usage sign whole part
+picture_size (pictures.Letters size) sign usage = size
+picture_size (pictures.Any size) sign usage = size
+picture_size (pictures.Edited mask) sign usage = shown_size mask
 
 -- a level 88 takes no storage
 abbrev pub is_condition : Entry → Bool
@@ -49,9 +62,9 @@ behind depth (piece ∷ pieces) =
     if nat_lt depth piece.depth then behind depth pieces else piece ∷ pieces
 
 -- how many bytes one occurrence has: by its picture, or those of its group
-abbrev pub size_by : Option Picture → Sign → ℕ → ℕ
-size_by None sign bytes = bytes
-size_by (Some picture) sign bytes = picture_size picture sign
+abbrev pub size_by : Option Picture → Sign → Usage → ℕ → ℕ
+size_by None sign usage bytes = bytes
+size_by (Some picture) sign usage bytes = picture_size picture sign usage
 
 -- the bytes of all occurrences
 abbrev pub times : Option ℕ → ℕ → ℕ
@@ -89,8 +102,8 @@ sized_by_either faulty entry later =
     if is_bare faulty entry
     then apart_sized 0 later
     else if is_apart entry
-    then apart_sized (size_by entry.picture entry.sign 0) later
-    else item_sized entry (size_by entry.picture entry.sign
+    then apart_sized (size_by entry.picture entry.sign entry.usage 0) later
+    else item_sized entry (size_by entry.picture entry.sign entry.usage
     (inside entry.level 0 later.pieces)) later
 
 -- the sizes of these entries

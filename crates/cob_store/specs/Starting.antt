@@ -3,9 +3,9 @@ use Rattle.std.specs.Prelude.{ℕ, zero, suc, ◌+◌, ◌*◌, Bool, false, ◌
 use Rattle.cob_num.specs.declared.storing.Stored.{Stored}
 use Rattle.cob_store.specs.declared.area.Form.{Form}
 use Rattle.cob_store.specs.declared.area.Form.TheVariants as forms
+use Rattle.cob_store.specs.declared.area.Storage.{Storage}
 use Rattle.cob_tree.specs.declared.place.Figure.{Figure}
 use Rattle.cob_tree.specs.declared.place.Figure.TheVariants as figures
-use Rattle.cob_tree.specs.declared.picture.Sign.{Sign}
 use Rattle.cob_tree.specs.declared.place.Operand.{Operand, out-Operand}
 use Rattle.cob_tree.specs.declared.place.Expr.TheOpen.{Operand-F}
 use Rattle.cob_tree.specs.declared.entry.Entry.{Entry}
@@ -32,14 +32,14 @@ figure_byte figures.Quote = 34
 -- ---- the starting bytes of an item
 
 -- the starting bytes of a number item: its VALUE, or zero
-abbrev pub started_by : Bool → Sign → ℕ → Option Stored → List ℕ
-started_by signed sign size None = number_bytes signed sign size (pos 0)
-started_by signed sign size (Some stored) = number_bytes signed sign size stored.value
+abbrev pub started_by : Bool → Storage → ℕ → Option Stored → List ℕ
+started_by signed storage size None = number_bytes signed storage size (pos 0)
+started_by signed storage size (Some stored) = number_bytes signed storage size stored.value
 
 -- the starting bytes of a number item with this VALUE
-abbrev pub number_started : Bool → ℕ → ℕ → Sign → ℕ → Value → List ℕ
-number_started signed whole part sign size clause =
-    started_by signed sign size (option_and_then (kept whole part false) clause)
+abbrev pub number_started : Bool → ℕ → ℕ → Storage → ℕ → Value → List ℕ
+number_started signed whole part storage size clause =
+    started_by signed storage size (option_and_then (kept whole part false) clause)
 
 -- the number of a VALUE that is a numeric literal
 abbrev pub value_in : {A B C D E : Type 0} → Operand-F A B C D E → Value
@@ -64,16 +64,17 @@ text_started size (Some operand) = text_in size (out-Operand operand)
 
 -- the starting bytes of an item, as the code holds them
 abbrev pub start_bytes : ℕ → Start → List ℕ
-start_bytes size (starts.Number signed sign minus number) =
-    signed_bytes signed sign size minus number
+start_bytes size (starts.Number signed storage minus number) =
+    signed_bytes signed storage size minus number
 start_bytes size (starts.Text bytes) = fitted size bytes.now
 start_bytes size (starts.Filler byte) = replicate size byte
 
 -- the starting bytes of an item of this form and length
 abbrev pub started : Form → ℕ → Option Operand → List ℕ
-started (forms.Number signed whole part sign) size clause =
-    number_started signed whole part sign size (number_in_clause clause)
+started (forms.Number signed whole part storage) size clause =
+    number_started signed whole part storage size (number_in_clause clause)
 started forms.Group size clause = text_started size clause
+started forms.Edited size clause = text_started size clause
 started forms.Text size clause = text_started size clause
 
 -- every lowest item sets starting bytes, and every group that has VALUE

@@ -1,11 +1,12 @@
 //! Where items are in storage.
 
 ghost use Rattle.std.specs.Prelude.{◌≡◌, ◌^◌, ◌-◌, min, sum, option_copied, slice_get};
-ghost use Rattle.cob_store.specs.Area.{root_of, size_of, start_of};
+ghost use Rattle.cob_store.specs.Area.{mask_at, root_of, size_of, start_of};
 
 use crate::constant_place::Dims;
-use cob_base::Items;
+use cob_base::{Boxed, Items};
 use cob_tree::Sign;
+use edit_fields::Mask;
 
 /// The repetitions of an OCCURS clause.
 #[derive(Clone, Copy, Debug, PartialEq, Eq)]
@@ -16,18 +17,31 @@ pub struct Dim {
     pub count: u32,
 }
 
+/// How a number is stored.
+#[derive(Clone, Copy, Debug, PartialEq, Eq)]
+pub enum Storage {
+    /// A character for each digit, with the sign there.
+    Digits(Sign),
+    /// In two's complement, so many digits at most.
+    Binary(u8),
+    /// A half byte for each of so many digits.
+    Packed(u8),
+}
+
 /// How the bytes of a place are read and written.
 #[derive(Clone, Copy, Debug, PartialEq, Eq)]
 pub enum Form {
     /// An item that holds items.
     Group,
-    /// A number in digits.
+    /// A number with so many digits before the decimal point and after it.
     Number {
         signed: bool,
         whole: u8,
         part: u8,
-        sign: Sign,
+        storage: Storage,
     },
+    /// A number as it is shown through the mask of its item: text, but where it receives one.
+    Edited,
     /// Any other item, and each place with a window.
     Text,
 }
@@ -42,6 +56,8 @@ pub struct Area {
     /// The bytes of one occurrence.
     pub size: u32,
     pub form: Form,
+    /// The mask of an item that is edited.
+    pub mask: Option<Boxed<Mask>>,
     /// The OCCURS clauses that apply to it, the outermost first.
     pub dims: Dims,
 }
@@ -104,4 +120,17 @@ pub fn area_at(areas: &[Area], item: u32) -> Option<&Area>
     ensures { option_copied result ≡ slice_get areas.now item }
 {
     areas.get(item as usize)
+}
+
+/// The mask of an item that is edited.
+pub fn mask_at(areas: &[Area], item: u32) -> Option<&Mask>
+    ensures { option_copied result ≡ mask_at areas.now item }
+{
+    match area_at(areas, item) {
+        None => None,
+        Some(area) => match &area.mask {
+            None => None,
+            Some(mask) => Some(mask.get()),
+        },
+    }
 }

@@ -2,14 +2,16 @@
 
 ghost use Rattle.std.specs.Prelude.{◌≡◌, Ok, ◌++◌, ◌<◌, [], ◌^◌, OnOk, length, option_copied};
 ghost use Rattle.cob_base.specs.Answers.{Makes};
-ghost use Rattle.cob_store.specs.Laying.{alone_laid, apart_laid, below_laid, condition_laid, dims_of, form_by, groups_of, item_laid, laid_by, last_area, layout_of, lengthened, next_by, root_by, same_file, start_by};
+ghost use Rattle.cob_store.specs.Laying.{alone_laid, apart_laid, below_laid, condition_laid, dims_of, form_by, groups_of, item_laid, laid_by, last_area, layout_of, lengthened, mask_by, next_by, root_by, same_file, start_by};
 
 use crate::area::{Area, Areas, Dim, Form, area_at};
 use crate::constant_place::Dims;
 use crate::size::{is_apart, is_condition, stacked_sizes, times};
 use crate::stack::Stack;
-use cob_base::{Items, NoMemory};
-use cob_tree::{Entry, Picture, Sign};
+use crate::store::form_with;
+use cob_base::{Boxed, Items, NoMemory};
+use cob_tree::{Entry, Picture, Sign, Usage};
+use edit_fields::Mask;
 use std::alloc::Global;
 
 /// A group that is open, and where its next item begins.
@@ -43,25 +45,21 @@ fn close_groups(groups: &mut Stack<Open>, depth: u8)
     }
 }
 
-fn form_by(sign: Sign, picture: Option<Picture>) -> Form
-    ensures { result ≡ form_by sign picture }
+fn form_by(sign: Sign, usage: Usage, picture: &Option<Picture>) -> Form
+    ensures { result ≡ form_by sign usage picture.now }
 {
     match picture {
         None => Form::Group,
-        Some(
-            Picture::Number {
-                signed,
-                whole,
-                part,
-            },
-        ) => Form::Number {
-            signed,
-            whole,
-            part,
-            sign,
-        },
-        Some(Picture::Letters(_)) => Form::Text,
-        Some(Picture::Any(_)) => Form::Text,
+        Some(picture) => form_with(picture, sign, usage),
+    }
+}
+
+fn mask_by(alloc: Global, picture: &Option<Picture>) -> Result<Option<Boxed<Mask>>, NoMemory>
+    ensures { Makes (mask_by picture.now) result }
+{
+    match picture {
+        Some(Picture::Edited(mask)) => Ok(Some(Boxed::new(alloc, *mask)?)),
+        _ => Ok(None),
     }
 }
 
@@ -165,7 +163,8 @@ fn lay_root(alloc: Global, laid: &mut Laid, entry: &Entry, size: u32) -> Result<
         root,
         start: 0,
         size,
-        form: form_by(entry.sign, entry.picture),
+        form: form_by(entry.sign, entry.usage, &entry.picture),
+        mask: mask_by(alloc, &entry.picture)?,
         dims: Dims::new(alloc, dims),
     })?;
     lengthen(&mut laid.roots, root, size)?;
@@ -197,7 +196,8 @@ fn lay_inner(
         root,
         start,
         size,
-        form: form_by(entry.sign, entry.picture),
+        form: form_by(entry.sign, entry.usage, &entry.picture),
+        mask: mask_by(alloc, &entry.picture)?,
         dims: Dims::new(alloc, dims),
     })?;
     laid.groups.push(Open { next, ..group })?;
@@ -244,6 +244,15 @@ fn lay_condition(alloc: Global, laid: &mut Laid) -> Result<(), NoMemory>
     laid.areas.push(area)
 }
 
+fn copy_mask(alloc: Global, mask: &Option<Boxed<Mask>>) -> Result<Option<Boxed<Mask>>, NoMemory>
+    ensures { Makes mask.now result }
+{
+    match mask {
+        None => Ok(None),
+        Some(mask) => Ok(Some(Boxed::new(alloc, *mask.get())?)),
+    }
+}
+
 fn copy_area(alloc: Global, area: &Area) -> Result<Area, NoMemory>
     ensures { Makes area.now result }
 {
@@ -252,6 +261,7 @@ fn copy_area(alloc: Global, area: &Area) -> Result<Area, NoMemory>
         start: area.start,
         size: area.size,
         form: area.form,
+        mask: copy_mask(alloc, &area.mask)?,
         dims: Dims::new(alloc, Items::from_slice(alloc, area.dims.as_slice())?),
     })
 }

@@ -1,10 +1,52 @@
 //! Numbers as the bytes of an item spell them.
 
-ghost use Rattle.std.specs.Prelude.{◌≡◌, ◌+◌, ◌-◌, ◌*◌, ◌^◌, ◌<◌, ◌≤◌, length, unsigned_abs, IfSome};
+ghost use Rattle.std.specs.Prelude.{◌≡◌, ◌+◌, ◌-◌, ◌*◌, ◌^◌, ◌%◌, ◌<◌, ◌≤◌, length, unsigned_abs, IfSome};
+ghost use Rattle.stored_forms.specs.Binary.{binary_size};
+ghost use Rattle.stored_forms.specs.Item.{IsHeld};
+ghost use Rattle.stored_forms.specs.Packed.{packed_size};
 ghost use Rattle.cob_tree.specs.Digits.{digits_value};
-ghost use Rattle.cob_store.specs.Number.{beside, front, is_overpunched, last, leading, negative, number_in, overpunched, padded, positive, sign_byte, signed_bytes, trailing, within};
+ghost use Rattle.cob_store.specs.declared.area.Storage.TheVariants as stores;
+ghost use Rattle.cob_store.specs.Number.{beside, digit_count, displayed_bytes, displayed_number, front, held_number, is_overpunched, is_stored, last, leading, negative, number_in, overpunched, padded, positive, sign_byte, signed_bytes, storage_of, trailing, within};
 
-use cob_tree::{Sign, digits_value};
+use crate::area::Storage;
+use cob_tree::{Sign, Usage, digits_value};
+use stored_forms::{
+    binary_read, binary_size, binary_write, count_of_digits, packed_read, packed_size, packed_write,
+};
+
+// ---- how it is stored
+
+/// How many digits a number has; at most the largest `u8`.
+pub fn digit_count(whole: u8, part: u8) -> u8
+    ensures { result ≡ digit_count whole part }
+{
+    whole.saturating_add(part)
+}
+
+/// How a number of so many digits is stored, by its USAGE and SIGN clauses.
+pub fn storage_of(sign: Sign, usage: Usage, digits: u8) -> Storage
+    ensures { result ≡ storage_of sign usage digits }
+{
+    match usage {
+        Usage::Display => Storage::Digits(sign),
+        Usage::Binary => Storage::Binary(digits),
+        Usage::Packed => Storage::Packed(digits),
+    }
+}
+
+// Whether a binary item of so many digits, 1 to 18, has so many bytes.
+fn is_binary(digits: u8, places: usize) -> bool
+    ensures { result ≡ is_stored binary_size digits places }
+{
+    digits >= 1 && digits <= 18 && places == binary_size(digits) as usize
+}
+
+// The same of a packed item.
+fn is_packed(digits: u8, places: usize) -> bool
+    ensures { result ≡ is_stored packed_size digits places }
+{
+    digits >= 1 && digits <= 18 && places == packed_size(digits) as usize
+}
 
 // ---- reading
 
@@ -72,10 +114,8 @@ fn beside(sign: u8, digits: Option<u64>) -> Option<i128>
     }
 }
 
-/// The number of an item that is signed or not, or `None` where its bytes aren't its digits and
-/// sign.
-pub fn number_in(signed: bool, sign: Sign, bytes: &[u8]) -> Option<i128>
-    ensures value { result ≡ number_in signed sign bytes.now }
+fn displayed_number(signed: bool, sign: Sign, bytes: &[u8]) -> Option<i128>
+    ensures value { result ≡ displayed_number signed sign bytes.now }
     ensures short { IfSome result (λ z. unsigned_abs z < 2 ^ 64) }
 {
     if !signed {
@@ -88,6 +128,40 @@ pub fn number_in(signed: bool, sign: Sign, bytes: &[u8]) -> Option<i128>
             digits_value(&bytes[bytes.len().min(1)..]),
         ),
         Sign::SeparateTrailing => beside(last(bytes), digits_value(front(bytes))),
+    }
+}
+
+fn binary_number(signed: bool, digits: u8, bytes: &[u8]) -> Option<i128>
+    ensures value { result ≡ number_in signed (stores.Binary digits) bytes.now }
+    ensures short { IfSome result (λ z. unsigned_abs z < 2 ^ 64) }
+{
+    if is_binary(digits, bytes.len()) {
+        binary_read(bytes, digits, signed)
+    } else {
+        None
+    }
+}
+
+fn packed_number(signed: bool, digits: u8, bytes: &[u8]) -> Option<i128>
+    ensures value { result ≡ number_in signed (stores.Packed digits) bytes.now }
+    ensures short { IfSome result (λ z. unsigned_abs z < 2 ^ 64) }
+{
+    if is_packed(digits, bytes.len()) {
+        packed_read(bytes, digits, signed)
+    } else {
+        None
+    }
+}
+
+/// The number of an item that is signed or not, or `None` where its bytes are none that it stores.
+pub fn number_in(signed: bool, storage: Storage, bytes: &[u8]) -> Option<i128>
+    ensures value { result ≡ number_in signed storage bytes.now }
+    ensures short { IfSome result (λ z. unsigned_abs z < 2 ^ 64) }
+{
+    match storage {
+        Storage::Digits(sign) => displayed_number(signed, sign, bytes),
+        Storage::Binary(digits) => binary_number(signed, digits, bytes),
+        Storage::Packed(digits) => packed_number(signed, digits, bytes),
     }
 }
 
@@ -165,9 +239,8 @@ fn put_trailing(into: &mut [u8], minus: bool, number: u128)
     }
 }
 
-/// Puts a number, `minus` where it is negative, in an item that is signed or not.
-pub fn put_signed(into: &mut [u8], signed: bool, sign: Sign, minus: bool, number: u128)
-    ensures { into.new ≡ signed_bytes signed sign (length into.old) minus number }
+fn put_displayed(into: &mut [u8], signed: bool, sign: Sign, minus: bool, number: u128)
+    ensures { into.new ≡ displayed_bytes signed sign (length into.old) minus number }
 {
     if !signed {
         put_digits(into, number);
@@ -183,5 +256,71 @@ pub fn put_signed(into: &mut [u8], signed: bool, sign: Sign, minus: bool, number
         }
         Sign::SeparateLeading => put_leading(into, minus, number),
         Sign::SeparateTrailing => put_trailing(into, minus, number),
+    }
+}
+
+// The low digits of a number, by shorter arithmetic where it is short.
+fn low_digits(digits: u8, number: u128) -> u64
+    requires { digits ≤ 18 }
+    ensures value { result ≡ number % 10 ^ digits }
+    ensures short { result < 10 ^ digits }
+{
+    let count = count_of_digits(digits);
+    match u64::try_from(number) {
+        Ok(short) => short % count,
+        Err(_) => (number % u128::from(count)) as u64,
+    }
+}
+
+// What an item of so many digits, signed or not, holds of a number.
+fn held_number(signed: bool, digits: u8, minus: bool, number: u128) -> i128
+    requires { digits ≤ 18 }
+    ensures value { result ≡ held_number signed digits minus number }
+    ensures held { IsHeld result digits signed }
+{
+    let low = i128::from(low_digits(digits, number));
+    if signed && minus { -low } else { low }
+}
+
+fn put_binary(into: &mut [u8], signed: bool, digits: u8, minus: bool, number: u128)
+    ensures { into.new ≡ signed_bytes signed (stores.Binary digits) (length into.old) minus
+        number }
+{
+    if is_binary(digits, into.len()) {
+        binary_write(
+            held_number(signed, digits, minus, number),
+            digits,
+            signed,
+            into,
+        );
+    } else {
+        into.fill(0);
+    }
+}
+
+fn put_packed(into: &mut [u8], signed: bool, digits: u8, minus: bool, number: u128)
+    ensures { into.new ≡ signed_bytes signed (stores.Packed digits) (length into.old) minus
+        number }
+{
+    if is_packed(digits, into.len()) {
+        packed_write(
+            held_number(signed, digits, minus, number),
+            digits,
+            signed,
+            into,
+        );
+    } else {
+        into.fill(0);
+    }
+}
+
+/// Puts a number, `minus` where it is negative, in an item that is signed or not.
+pub fn put_signed(into: &mut [u8], signed: bool, storage: Storage, minus: bool, number: u128)
+    ensures { into.new ≡ signed_bytes signed storage (length into.old) minus number }
+{
+    match storage {
+        Storage::Digits(sign) => put_displayed(into, signed, sign, minus, number),
+        Storage::Binary(digits) => put_binary(into, signed, digits, minus, number),
+        Storage::Packed(digits) => put_packed(into, signed, digits, minus, number),
     }
 }

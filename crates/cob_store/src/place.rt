@@ -139,6 +139,7 @@ pub fn number_at(store: &Store, spot: Spot, form: Form) -> Result<Option<Dec>, A
             Ok(Some(number))
         }
         Form::Group => Ok(None),
+        Form::Edited => Ok(None),
         Form::Text => Ok(None),
     }
 }

@@ -2,13 +2,15 @@
 
 ghost use Rattle.std.specs.Prelude.{◌≡◌};
 ghost use Rattle.cob_base.specs.Answers.{Makes};
-ghost use Rattle.cob_store.specs.Size.{added, behind, inside, is_apart, is_bare, is_condition, picture_size, sign_size, size_by, sized, sized_either, times};
+ghost use Rattle.cob_store.specs.Size.{added, behind, inside, is_apart, is_bare, is_condition, number_size, picture_size, sign_size, size_by, sized, sized_either, times};
 ghost use Rattle.cob_store.specs.sizes.Size as judged;
 
+use crate::number::digit_count;
 use crate::stack::Stack;
 use cob_base::{Items, NoMemory};
-use cob_tree::{Entry, Picture, Sign};
+use cob_tree::{Entry, Picture, Sign, Usage};
 use std::alloc::Global;
+use stored_forms::{binary_size, packed_size};
 
 /// An item with all its occurrences, in a row of items. One that redefines adds nothing to the
 /// size.
@@ -28,13 +30,24 @@ fn sign_size(sign: Sign) -> u32
     }
 }
 
-fn picture_size(picture: Picture, sign: Sign) -> u32
-    ensures { result ≡ picture_size picture sign }
+fn number_size(usage: Usage, sign: Sign, whole: u8, part: u8) -> u32
+    ensures { result ≡ number_size usage sign whole part }
+{
+    match usage {
+        Usage::Display => u32::from(whole) + u32::from(part) + sign_size(sign),
+        Usage::Binary => binary_size(digit_count(whole, part)),
+        Usage::Packed => packed_size(digit_count(whole, part)),
+    }
+}
+
+fn picture_size(picture: &Picture, sign: Sign, usage: Usage) -> u32
+    ensures { result ≡ picture_size picture.now sign usage }
 {
     match picture {
-        Picture::Number { whole, part, .. } => u32::from(whole) + u32::from(part) + sign_size(sign),
-        Picture::Letters(size) => size,
-        Picture::Any(size) => size,
+        Picture::Number { whole, part, .. } => number_size(usage, sign, *whole, *part),
+        Picture::Letters(size) => *size,
+        Picture::Any(size) => *size,
+        Picture::Edited(mask) => mask.size(),
     }
 }
 
@@ -81,12 +94,12 @@ fn added(redefines: Option<u32>, bytes: u32) -> u32
     }
 }
 
-fn size_by(picture: Option<Picture>, sign: Sign, bytes: u32) -> u32
-    ensures { result ≡ size_by picture sign bytes }
+fn size_by(picture: &Option<Picture>, sign: Sign, usage: Usage, bytes: u32) -> u32
+    ensures { result ≡ size_by picture.now sign usage bytes }
 {
     match picture {
         None => bytes,
-        Some(picture) => picture_size(picture, sign),
+        Some(picture) => picture_size(picture, sign, usage),
     }
 }
 
@@ -119,10 +132,10 @@ fn sizes_back(alloc: Global, entries: &[Entry], faulty: bool) -> Result<Stack<u3
         if is_bare(faulty, entry) {
             sizes.push(0)?;
         } else if is_apart(entry) {
-            sizes.push(size_by(entry.picture, entry.sign, 0))?;
+            sizes.push(size_by(&entry.picture, entry.sign, entry.usage, 0))?;
         } else {
             let bytes = take_inside(&mut pieces, entry.level);
-            let size = size_by(entry.picture, entry.sign, bytes);
+            let size = size_by(&entry.picture, entry.sign, entry.usage, bytes);
             sizes.push(size)?;
             pieces.push(SizedItem {
                 depth: entry.level,

@@ -1,4 +1,5 @@
-//! How long a program's items are, in bytes (ISO 1989:1985, PICTURE, OCCURS and REDEFINES clauses).
+//! How long a program's items are, in bytes (ISO 1989:1985, PICTURE, USAGE, OCCURS and REDEFINES
+//! clauses).
 //!
 //! `sizes_of` computes the bytes of one occurrence of each entry, from the last entry to the first,
 //! by `specs/sizes/Size`; `storage_of` counts the bytes of all items by `specs/sizes/Storage`, and

@@ -5,13 +5,13 @@ ghost use Rattle.cob_base.specs.Answers.{Makes};
 ghost use Rattle.cob_store.specs.Starting.{figure_byte, item_started, moved_by, number_in_clause, number_started, put_each, sets_bytes, start_bytes, started, store_of, text_started};
 ghost use Rattle.cob_store.specs.Store.{put_at};
 
-use crate::area::{Area, Areas, Dim, Form};
+use crate::area::{Area, Areas, Dim, Form, Storage};
 use crate::place::{kept, literal_value};
 use crate::spot::Spot;
 use crate::store::Store;
 use cob_base::NoMemory;
 use cob_num::Dec;
-use cob_tree::{Entry, Figure, Operand, Sign};
+use cob_tree::{Entry, Figure, Operand};
 use std::alloc::Global;
 
 /// The byte that a figure repeats.
@@ -32,7 +32,7 @@ pub fn figure_byte(figure: Figure) -> u8
 pub enum Start<'a> {
     Number {
         signed: bool,
-        sign: Sign,
+        storage: Storage,
         minus: bool,
         number: u128,
     },
@@ -69,15 +69,15 @@ fn number_started(
     signed: bool,
     whole: u8,
     part: u8,
-    sign: Sign,
+    storage: Storage,
     clause: &Option<Operand>,
 ) -> Start<'_>
     ensures { (size : ℕ) → start_bytes size result
-        ≡ number_started signed whole part sign size (number_in_clause clause.now) }
+        ≡ number_started signed whole part storage size (number_in_clause clause.now) }
 {
     let zero = Start::Number {
         signed,
-        sign,
+        storage,
         minus: false,
         number: 0,
     };
@@ -88,7 +88,7 @@ fn number_started(
         None => zero,
         Some(stored) => Start::Number {
             signed,
-            sign,
+            storage,
             minus: stored.value < 0,
             number: stored.value.unsigned_abs(),
         },
@@ -103,9 +103,10 @@ fn started(form: Form, clause: &Option<Operand>) -> Start<'_>
             signed,
             whole,
             part,
-            sign,
-        } => number_started(signed, whole, part, sign, clause),
+            storage,
+        } => number_started(signed, whole, part, storage, clause),
         Form::Group => text_started(clause),
+        Form::Edited => text_started(clause),
         Form::Text => text_started(clause),
     }
 }
@@ -116,10 +117,10 @@ fn put_start(store: &mut Store, spot: Spot, start: Start)
     match start {
         Start::Number {
             signed,
-            sign,
+            storage,
             minus,
             number,
-        } => store.put_number(spot, signed, sign, minus, number),
+        } => store.put_number(spot, signed, storage, minus, number),
         Start::Text(bytes) => store.put_bytes(spot, bytes),
         Start::Filler(byte) => store.put_filler(spot, byte),
     }

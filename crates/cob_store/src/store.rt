@@ -5,16 +5,19 @@ ghost use Rattle.cob_base.specs.Answers.{Makes};
 ghost use Rattle.cob_store.specs.Number.{signed_bytes};
 ghost use Rattle.cob_store.specs.Place.{memory_of, reach_of};
 ghost use Rattle.cob_store.specs.Starting.{store_of};
-ghost use Rattle.cob_store.specs.Store.{blank, fitted, form_with, is_inside, number_of, put_at, replaced, spot_bytes, stored_at, value_at};
+ghost use Rattle.cob_num.specs.Exact.{decimal};
+ghost use Rattle.edit_fields.specs.Field.{digits_of};
+ghost use Rattle.cob_store.specs.Store.{blank, edited_bytes, fitted, form_with, is_inside, number_of, put_at, replaced, shown_at, spot_bytes, stored_at, stored_by, value_at};
 
-use crate::area::{Areas, Form};
-use crate::number::{number_in, put_signed};
+use crate::area::{Areas, Form, Storage};
+use crate::number::{digit_count, number_in, put_signed, storage_of};
 use crate::place::reached;
 use crate::spot::Spot;
 use crate::starting::initial;
 use cob_base::{NoMemory, Text};
 use cob_num::{Dec, Stored};
-use cob_tree::{Abend, Entry, Picture, Place, Sign};
+use cob_tree::{Abend, Entry, Picture, Place, Sign, Usage};
+use edit_fields::Mask;
 use std::alloc::Global;
 use std::marker::Model;
 
@@ -68,14 +71,44 @@ fn put_number_at(
     start: usize,
     size: usize,
     signed: bool,
-    sign: Sign,
+    storage: Storage,
     minus: bool,
     number: u128,
 )
     requires { start + size ≤ length root.old }
-    ensures { root.new ≡ replaced root.old start size (signed_bytes signed sign size minus number) }
+    ensures { root.new
+        ≡ replaced root.old start size (signed_bytes signed storage size minus number) }
 {
-    put_signed(&mut root[start..start + size], signed, sign, minus, number);
+    put_signed(
+        &mut root[start..start + size],
+        signed,
+        storage,
+        minus,
+        number,
+    );
+}
+
+// Puts what a number shows through a mask, cut or padded with spaces where the place isn't of the
+// mask's size.
+fn put_shown(into: &mut [u8], mask: &Mask, number: Dec)
+    ensures { into.new ≡ edited_bytes mask.now (length into.old) number }
+{
+    let size = mask.size() as usize;
+    if size == into.len() {
+        mask.edit(number, into);
+    } else {
+        let mut bytes = [0u8; 160];
+        let shown = &mut bytes[..size];
+        mask.edit(number, shown);
+        fit(into, shown);
+    }
+}
+
+fn put_shown_at(root: &mut [u8], start: usize, size: usize, mask: &Mask, number: Dec)
+    requires { start + size ≤ length root.old }
+    ensures { root.new ≡ replaced root.old start size (edited_bytes mask.now size number) }
+{
+    put_shown(&mut root[start..start + size], mask, number);
 }
 
 /// The number with so many decimal places, or BadDigits where there is none.
@@ -92,8 +125,9 @@ pub fn number_of(number: Option<i128>, places: u8) -> Result<Dec, Abend>
     }
 }
 
-fn form_with(picture: Picture, sign: Sign) -> Form
-    ensures { result ≡ form_with picture sign }
+/// The form of an item by its picture, SIGN and USAGE clauses.
+pub fn form_with(picture: &Picture, sign: Sign, usage: Usage) -> Form
+    ensures { result ≡ form_with picture.now sign usage }
 {
     match picture {
         Picture::Number {
@@ -101,14 +135,22 @@ fn form_with(picture: Picture, sign: Sign) -> Form
             whole,
             part,
         } => Form::Number {
-            signed,
-            whole,
-            part,
-            sign,
+            signed: *signed,
+            whole: *whole,
+            part: *part,
+            storage: storage_of(sign, usage, digit_count(*whole, *part)),
         },
         Picture::Letters(_) => Form::Text,
         Picture::Any(_) => Form::Text,
+        Picture::Edited(_) => Form::Edited,
     }
+}
+
+// The number that was stored for an item with this mask.
+fn shown_number(stored: Stored, mask: &Mask) -> Option<Dec>
+    ensures { result ≡ decimal stored.value (digits_of mask.now).part }
+{
+    Dec::new(stored.value, mask.digits().part)
 }
 
 fn spaces(alloc: Global, size: u32) -> Result<Text, NoMemory>
@@ -181,11 +223,17 @@ impl Store {
         }
     }
 
-    /// Puts a number at a spot, negative where `minus` says so, with the digits and the sign of an
-    /// item of this kind.
-    pub fn put_number(&mut self, spot: Spot, signed: bool, sign: Sign, minus: bool, number: u128)
+    /// Puts a number at a spot, negative where `minus` says so, as an item of this kind stores it.
+    pub fn put_number(
+        &mut self,
+        spot: Spot,
+        signed: bool,
+        storage: Storage,
+        minus: bool,
+        number: u128,
+    )
         ensures { self.new ≡ put_at self.old spot
-            (signed_bytes signed sign spot.length minus number) }
+            (signed_bytes signed storage spot.length minus number) }
     {
         let at = spot.root as usize;
         if self.is_inside(spot) && at < self.roots.len() {
@@ -195,14 +243,31 @@ impl Store {
                 spot.start as usize,
                 spot.length as usize,
                 signed,
-                sign,
+                storage,
                 minus,
                 number,
             );
         }
     }
 
-    /// The number at a spot of that form; BadDigits where its bytes aren't digits and sign.
+    /// Puts what a number shows through a mask at a spot.
+    pub fn put_edited(&mut self, spot: Spot, mask: &Mask, number: Dec)
+        ensures { self.new ≡ put_at self.old spot (edited_bytes mask.now spot.length number) }
+    {
+        let at = spot.root as usize;
+        if self.is_inside(spot) && at < self.roots.len() {
+            let root = &mut self.roots[at];
+            put_shown_at(
+                &mut root.bytes,
+                spot.start as usize,
+                spot.length as usize,
+                mask,
+                number,
+            );
+        }
+    }
+
+    /// The number at a spot of that form; BadDigits where its bytes are none of such a number.
     pub fn value(&self, spot: Spot, form: Form) -> Result<Dec, Abend>
         ensures { result ≡ value_at self.now spot form }
     {
@@ -210,32 +275,59 @@ impl Store {
             Form::Number {
                 signed,
                 part,
-                sign,
+                storage,
                 ..
-            } => number_of(number_in(signed, sign, self.bytes(spot)), part),
+            } => number_of(number_in(signed, storage, self.bytes(spot)), part),
             Form::Group => Err(Abend::BadDigits),
+            Form::Edited => Err(Abend::BadDigits),
             Form::Text => Err(Abend::BadDigits),
         }
     }
 
-    /// The number at a spot of that picture and sign; BadDigits where its bytes aren't digits and
-    /// sign.
-    pub fn get(&self, spot: Spot, picture: &Picture, sign: Sign) -> Result<Dec, Abend>
-        ensures { result ≡ value_at self.now spot (form_with picture.now sign) }
+    /// The number at a spot of that picture, sign and usage; BadDigits where its bytes are none of
+    /// such a number.
+    pub fn get(&self, spot: Spot, picture: &Picture, sign: Sign, usage: Usage) -> Result<Dec, Abend>
+        ensures { result ≡ value_at self.now spot (form_with picture.now sign usage) }
     {
-        self.value(spot, form_with(*picture, sign))
+        self.value(spot, form_with(picture, sign, usage))
     }
 
-    /// Puts a number that was cut for storing, as the digits and the sign of that picture.
-    pub fn put(&mut self, spot: Spot, picture: &Picture, sign: Sign, stored: Stored)
-        ensures { self.new ≡ stored_at self.old spot (form_with picture.now sign) stored }
+    // Puts a number that was cut for storing, as an item of this form stores it.
+    fn put_stored(&mut self, spot: Spot, form: Form, stored: Stored)
+        ensures { self.new ≡ stored_at self.old spot form stored }
     {
         let minus = stored.value < 0;
         let number = stored.value.unsigned_abs();
-        match form_with(*picture, sign) {
-            Form::Number { signed, sign, .. } => self.put_number(spot, signed, sign, minus, number),
+        match form {
+            Form::Number {
+                signed,
+                storage,
+                ..
+            } => self.put_number(spot, signed, storage, minus, number),
             Form::Group => {}
+            Form::Edited => {}
             Form::Text => {}
+        }
+    }
+
+    // Puts what a number shows through a mask, where there is one.
+    fn put_shown(&mut self, spot: Spot, mask: &Mask, number: Option<Dec>)
+        ensures { self.new ≡ shown_at self.old spot mask.now number }
+    {
+        match number {
+            None => {}
+            Some(number) => self.put_edited(spot, mask, number),
+        }
+    }
+
+    /// Puts a number that was cut for storing, as an item of that picture, sign and usage stores or
+    /// shows it.
+    pub fn put(&mut self, spot: Spot, picture: &Picture, sign: Sign, stored: Stored, usage: Usage)
+        ensures { self.new ≡ stored_by self.old spot picture.now sign usage stored }
+    {
+        match picture {
+            Picture::Edited(mask) => self.put_shown(spot, mask, shown_number(stored, mask)),
+            _ => self.put_stored(spot, form_with(picture, sign, usage), stored),
         }
     }
 

@@ -1,6 +1,6 @@
 //! Entries of the data division.
 
-use crate::picture::{Picture, Sign};
+use crate::picture::{Picture, Sign, Usage};
 use crate::place::Operand;
 use cob_base::{Copied, Items, NoMemory, Word};
 use std::alloc::Global;
@@ -17,6 +17,7 @@ pub struct Entry {
     pub redefines: Option<u32>,
     pub picture: Option<Picture>,
     pub sign: Sign,
+    pub usage: Usage,
     pub occurs: Option<u32>,
     pub value: Option<Operand>,
     /// The values of a condition name, an entry of level 88.
@@ -39,6 +40,7 @@ impl Copied for Entry {
             redefines: self.redefines,
             picture: self.picture,
             sign: self.sign,
+            usage: self.usage,
             occurs: self.occurs,
             value: self.value.copy(alloc)?,
             ranges: self.ranges.copy(alloc)?,

@@ -36,7 +36,7 @@ pub use entry::{Entry, Span};
 pub use fault::{NameFault, ParseError, ParseFault, SplitFault};
 pub use file::{FileEntry, How, Opening};
 pub use number::Number;
-pub use picture::{Picture, Sign};
+pub use picture::{Picture, Sign, Usage};
 pub use place::{Expr, Figure, Op, Operand, Place, Sub, Window};
 pub use program::{Paragraph, Program, Range, Sentence};
 pub use stmt::{Arms, Stmt, When};

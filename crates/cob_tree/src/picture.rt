@@ -1,6 +1,7 @@
 //! What a data item's bytes are.
 
 use cob_base::{Copied, NoMemory};
+use edit_fields::Mask;
 use std::alloc::Global;
 
 /// A picture (ISO 1989:1985, PICTURE clause).
@@ -12,6 +13,8 @@ pub enum Picture {
     Letters(u32),
     /// So many characters of any kind.
     Any(u32),
+    /// A number as it is shown through a mask.
+    Edited(Mask),
 }
 
 /// Where the sign of a number is (SIGN clause).
@@ -23,6 +26,17 @@ pub enum Sign {
     SeparateLeading,
     /// A character of its own after the digits.
     SeparateTrailing,
+}
+
+/// How a number's digits are stored (USAGE clause).
+#[derive(Clone, Copy, Debug, PartialEq, Eq)]
+pub enum Usage {
+    /// A character for each digit.
+    Display,
+    /// In two's complement.
+    Binary,
+    /// Two digits to a byte.
+    Packed,
 }
 
 impl Copied for Picture {

@@ -17,17 +17,18 @@ const RESERVED: [&[&str]; 16] = [
         "ADD", "AND", "ANY", "ARE", "END", "I-O", "NOT", "PIC", "RUN", "SET",
     ],
     &[
-        "DATA", "ELSE", "EXIT", "FILE", "FROM", "INTO", "LESS", "MODE", "MOVE", "NEXT", "OPEN",
-        "READ", "SIGN", "SIZE", "STOP", "TEST", "THAN", "THEN", "THRU", "TRUE", "WHEN", "WITH",
-        "ZERO",
+        "COMP", "DATA", "ELSE", "EXIT", "FILE", "FROM", "INTO", "LESS", "MODE", "MOVE", "NEXT",
+        "OPEN", "READ", "SIGN", "SIZE", "STOP", "TEST", "THAN", "THEN", "THRU", "TRUE", "WHEN",
+        "WITH", "ZERO",
     ],
     &[
         "AFTER", "BLOCK", "CLOSE", "EQUAL", "ERROR", "FALSE", "INPUT", "LABEL", "OTHER", "QUOTE",
         "SPACE", "TIMES", "UNTIL", "USAGE", "VALUE", "WRITE", "ZEROS",
     ],
     &[
-        "ACCESS", "ASSIGN", "BEFORE", "DIVIDE", "END-IF", "EXTEND", "FILLER", "GIVING", "OCCURS",
-        "OUTPUT", "QUOTES", "RECORD", "SELECT", "SPACES", "STATUS", "VALUES", "ZEROES",
+        "ACCESS", "ASSIGN", "BEFORE", "BINARY", "COMP-3", "DIVIDE", "END-IF", "EXTEND", "FILLER",
+        "GIVING", "OCCURS", "OUTPUT", "QUOTES", "RECORD", "SELECT", "SPACES", "STATUS", "VALUES",
+        "ZEROES",
     ],
     &[
         "COMPUTE", "DISPLAY", "END-ADD", "GREATER", "LEADING", "NUMERIC", "OMITTED", "PERFORM",
@@ -70,9 +71,14 @@ const RESERVED: [&[&str]; 16] = [
         "INPUT-OUTPUT",
         "ORGANIZATION",
     ],
-    &["CONFIGURATION"],
-    &["IDENTIFICATION"],
-    &["OBJECT-COMPUTER", "SOURCE-COMPUTER", "WORKING-STORAGE"],
+    &["COMPUTATIONAL", "CONFIGURATION"],
+    &["IDENTIFICATION", "PACKED-DECIMAL"],
+    &[
+        "COMPUTATIONAL-3",
+        "OBJECT-COMPUTER",
+        "SOURCE-COMPUTER",
+        "WORKING-STORAGE",
+    ],
 ];
 
 /// The words of what this profile leaves out, in the same way.
@@ -82,12 +88,12 @@ const LEFT_OUT: [&[&str]; 16] = [
     &[],
     &["ALL", "USE"],
     &[
-        "ALSO", "CALL", "COMP", "COPY", "CORR", "JUST", "SEND", "SORT", "SYNC", "UPON",
+        "ALSO", "CALL", "COPY", "CORR", "JUST", "SEND", "SORT", "SYNC", "UPON",
     ],
     &["ALTER", "BLANK", "ENTER", "INDEX", "MERGE", "START"],
     &[
-        "ACCEPT", "BINARY", "CANCEL", "COMP-3", "DELETE", "ENABLE", "GLOBAL", "GOBACK", "LINAGE",
-        "REPORT", "RETURN", "SEARCH", "STRING",
+        "ACCEPT", "CANCEL", "DELETE", "ENABLE", "GLOBAL", "GOBACK", "LINAGE", "REPORT", "RETURN",
+        "SEARCH", "STRING",
     ],
     &[
         "DISABLE", "INDEXED", "INSPECT", "INVALID", "LINKAGE", "RECEIVE", "RELEASE", "RENAMES",
@@ -102,13 +108,12 @@ const LEFT_OUT: [&[&str]; 16] = [
     &["DECLARATIVES", "SYNCHRONIZED"],
     &[
         "COMMUNICATION",
-        "COMPUTATIONAL",
         "CORRESPONDING",
         "DECIMAL-POINT",
         "SPECIAL-NAMES",
     ],
-    &["PACKED-DECIMAL"],
-    &["COMPUTATIONAL-3"],
+    &[],
+    &[],
 ];
 /// Whether the word is reserved (ISO 1989:1985, reserved words) and of the language that is read.
 /// The words that are left out are reserved too: a user's word is neither this nor `left_out`.

@@ -57,21 +57,23 @@ abbrev pub to_group_fault : ExprContent → (whole : Bool) → Position → Opti
 to_group_fault makes.Literal whole position = unless_whole whole position
 to_group_fault _ whole position = None
 
--- a number with decimals moved to text
+-- a number with decimals moved to text; an edited item takes any number
 abbrev pub number_moved : ExprContent → (whole : Bool) → (to : ValueKind) → Position → Option Note
 number_moved make whole kinds.Text position = unless_whole whole position
 number_moved make whole kinds.Group position = to_group_fault make whole position
 number_moved make whole _ position = None
 
--- a figurative constant other than ZERO moved to a number
-abbrev pub figure_moved : (to : ValueKind) → Position → Option Note
-figure_moved (kinds.Number whole) position = usage position
-figure_moved _ position = None
+-- what can't become a number, moved to one
+abbrev pub to_number_fault : (to : ValueKind) → Position → Option Note
+to_number_fault (kinds.Number whole) position = usage position
+to_number_fault _ position = None
 
--- the fault of a move, which is at the position
+-- the fault of a move, which is at the position; an edited item, and a figurative constant other
+-- than ZERO, can't become a number
 abbrev pub moved_fault : ExprContent → (from to : ValueKind) → Position → Option Note
 moved_fault make (kinds.Number whole) to position = number_moved make whole to position
-moved_fault make kinds.Figure to position = figure_moved to position
+moved_fault make kinds.Edited to position = to_number_fault to position
+moved_fault make kinds.Figure to position = to_number_fault to position
 moved_fault make _ to position = None
 
 -- what is wrong with a move from the one to the other; the fault is at the sender

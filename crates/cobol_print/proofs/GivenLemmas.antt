@@ -15,6 +15,8 @@ use Rattle.cob_tree.specs.declared.number.Number.{Number}
 use Rattle.cob_tree.specs.declared.picture.Picture.{Picture}
 use Rattle.cob_tree.specs.declared.picture.Sign.{Sign}
 use Rattle.cob_tree.specs.declared.picture.Sign.TheVariants.{Within, SeparateLeading, SeparateTrailing}
+use Rattle.cob_tree.specs.declared.picture.Usage.{Usage}
+use Rattle.cob_tree.specs.declared.picture.Usage.TheVariants.{Display, Binary, Packed}
 use Rattle.cob_tree.specs.declared.place.Operand.{Operand}
 use Rattle.cob_tree.specs.declared.program.Paragraph.{Paragraph}
 use Rattle.cob_tree.specs.declared.program.Program.{Program}
@@ -33,7 +35,7 @@ use Rattle.unparser.proofs.TokenLemmas.{HasShape, has_shape, reserved-folded, re
 use Rattle.cobol_print.specs.declared.units.unit.PrintUnit.{PrintUnit}
 use Rattle.cobol_print.specs.units.Unit.{unit_at, header, ended}
 use Rattle.cobol_print.specs.units.Picture.{picture_text}
-use Rattle.cobol_print.specs.units.Entry.{level_text, level_column, redefines_tokens, picture_tokens, sign_tokens, occurs_tokens, value_tokens, ranges_tokens, entry_unit}
+use Rattle.cobol_print.specs.units.Entry.{level_text, level_column, redefines_tokens, picture_tokens, usage_tokens, sign_tokens, occurs_tokens, value_tokens, ranges_tokens, entry_unit}
 use Rattle.cobol_print.specs.units.Division.{program_id, select_tokens, status_tokens, file_units, environment_units, fd_unit, file_section, headers_between, entries_units, data_units, section_line, named_line, sentence_lines, sentence_units, paragraph_units, paragraphs_units, procedure_units, program_units}
 use Rattle.cobol_print.proofs.units_lemmas.LineLemmas.{Begins, IsIn, AreIn, sentence-lines-in}
 use Rattle.cobol_print.specs.Given.{IsFree, AreFree, IsGivenFile, IsPrintable, IsGivenPicture, file_of, IsGivenEntry, IsGivenLine, IsGivenSentence, IsGivenParagraph, IsGiven}
@@ -348,18 +350,20 @@ Apart (kind.Word word ∷ tokens) = Unit {0}
 Apart (kind.Period ∷ tokens) = Unit {0}
 Apart _ = ⊥
 
-abbrev back_tokens : Program → Sign → Option ℕ → Option Operand → List Span → Tokens
-back_tokens program sign occurs value ranges =
-    sign_tokens sign ++ (occurs_tokens occurs ++ (value_tokens program value ++ ranges_tokens program ranges))
+abbrev back_tokens : Program → Usage → Sign → Option ℕ → Option Operand → List Span → Tokens
+back_tokens program usage sign occurs value ranges =
+    usage_tokens usage ++ (sign_tokens sign ++ (occurs_tokens occurs ++ (value_tokens program value ++ ranges_tokens program ranges)))
 
-back-apart : (program : Program) (sign : Sign) (occurs : Option ℕ) (value : Option Operand) (ranges : List Span) →
-    Apart (back_tokens program sign occurs value ranges ++ kind.Period ∷ [])
-back-apart program Within None None [] = tt
-back-apart program Within None None (span ∷ spans) = tt
-back-apart program Within None (Some value) ranges = tt
-back-apart program Within (Some count) value ranges = tt
-back-apart program SeparateLeading occurs value ranges = tt
-back-apart program SeparateTrailing occurs value ranges = tt
+back-apart : (program : Program) (usage : Usage) (sign : Sign) (occurs : Option ℕ) (value : Option Operand) (ranges : List Span) →
+    Apart (back_tokens program usage sign occurs value ranges ++ kind.Period ∷ [])
+back-apart program Display Within None None [] = tt
+back-apart program Display Within None None (span ∷ spans) = tt
+back-apart program Display Within None (Some value) ranges = tt
+back-apart program Display Within (Some count) value ranges = tt
+back-apart program Display SeparateLeading occurs value ranges = tt
+back-apart program Display SeparateTrailing occurs value ranges = tt
+back-apart program Binary sign occurs value ranges = tt
+back-apart program Packed sign occurs value ranges = tt
 
 back-meets : (picture : List ℕ) (back : Tokens) → AreFree back → Apart (back ++ kind.Period ∷ []) →
     MayMeet (kind.Picture picture) (back ++ kind.Period ∷ [])
@@ -379,24 +383,27 @@ back-meets picture (kind.LessEqual ∷ tokens) h apart = absurd apart
 back-meets picture (kind.GreaterEqual ∷ tokens) h apart = absurd apart
 back-meets picture (kind.Power ∷ tokens) h apart = absurd apart
 
+in-margin : (column : ℕ) → column ≤ 12 → column ≤ 32
+in-margin column high = omega (arith, high)
+
 -- an entry by its parts: what stands before its picture, and behind it
-entry-is : (column : ℕ) (front back : Tokens) (picture : Option Picture) → 8 ≤ column → column ≤ 32 → Begins front → AreFree front →
+entry-is : (column : ℕ) (front back : Tokens) (picture : Option Picture) → 8 ≤ column → column ≤ 12 → Begins front → AreFree front →
     IsGivenPicture picture → AreFree back → Apart (back ++ kind.Period ∷ []) →
     IsUnit (unit_at column (front ++ (picture_tokens picture ++ (back ++ kind.Period ∷ []))))
     × Steady (front ++ (picture_tokens picture ++ (back ++ kind.Period ∷ [])))
 entry-is column front back None low high b h given k apart = (
-  line-is column front (back ++ kind.Period ∷ []) low high b h (free-follows back (kind.Period ∷ []) k period-follows)
-      (All-append (IsSized column) back (kind.Period ∷ []) (all-sized column back high k) (period-sized column high)),
+  line-is column front (back ++ kind.Period ∷ []) low (in-margin column high) b h (free-follows back (kind.Period ∷ []) k period-follows)
+      (All-append (IsSized column) back (kind.Period ∷ []) (all-sized column back (in-margin column high) k) (period-sized column (in-margin column high))),
   steady-append front (back ++ kind.Period ∷ []) (free-steady front h) (sentence-steady back k),
 )
 entry-is column front back (Some picture) low high b h given k apart =
     let text : List ℕ = picture_text picture in
     let ended_by : Tokens = back ++ kind.Period ∷ [] in (
-      line-is column front (kind.Word (codes "PIC") ∷ kind.Picture text ∷ ended_by) low high b h
+      line-is column front (kind.Word (codes "PIC") ∷ kind.Picture text ∷ ended_by) low (in-margin column high) b h
           (picture-follows text ended_by (back-meets text back k apart))
           (All-cons (IsSized column) (kind.Word (codes "PIC")) (kind.Picture text ∷ ended_by) (omega (arith, high))
           (All-cons (IsSized column) (kind.Picture text) ended_by (omega (arith, high, given.short), given.ink)
-          (All-append (IsSized column) back (kind.Period ∷ []) (all-sized column back high k) (period-sized column high)))),
+          (All-append (IsSized column) back (kind.Period ∷ []) (all-sized column back (in-margin column high) k) (period-sized column (in-margin column high))))),
       steady-append front (kind.Word (codes "PIC") ∷ kind.Picture text ∷ ended_by) (free-steady front h)
           (steady-append (kind.Word (codes "PIC") ∷ kind.Picture text ∷ []) ended_by (picture-steady text given) (sentence-steady back k)),
     )
@@ -405,7 +412,7 @@ level-low : (b : Bool) → 8 ≤ (if b then 8 else 12)
 level-low true = omega arith
 level-low false = omega arith
 
-level-high : (b : Bool) → (if b then 8 else 12) ≤ 32
+level-high : (b : Bool) → (if b then 8 else 12) ≤ 12
 level-high true = omega arith
 level-high false = omega arith
 
@@ -413,25 +420,25 @@ abbrev front_tokens : Program → Entry → Tokens
 front_tokens program entry =
     kind.Digits (level_text entry.level) ∷ kind.Word (entry_name (Some entry)) ∷ redefines_tokens program entry.redefines
 
-regrouped : (r p s o v w e : Tokens) → ((((r ++ p) ++ s) ++ o) ++ v) ++ w ++ e ≡ r ++ (p ++ ((s ++ (o ++ (v ++ w))) ++ e))
-regrouped r p s o v w e = simp append_assoc
+regrouped : (r p u s o v w e : Tokens) → (((((r ++ p) ++ u) ++ s) ++ o) ++ v) ++ w ++ e ≡ r ++ (p ++ ((u ++ (s ++ (o ++ (v ++ w)))) ++ e))
+regrouped r p u s o v w e = simp append_assoc
 
 entry-tokens : (program : Program) (entry : Entry) →
     front_tokens program entry ++ (picture_tokens entry.picture
-    ++ (back_tokens program entry.sign entry.occurs entry.value entry.ranges ++ kind.Period ∷ []))
+    ++ (back_tokens program entry.usage entry.sign entry.occurs entry.value entry.ranges ++ kind.Period ∷ []))
     ≡ (entry_unit program entry).tokens
 entry-tokens program entry =
     ap (λ t. kind.Digits (level_text entry.level) ∷ kind.Word (entry_name (Some entry)) ∷ t)
-    (sym (regrouped (redefines_tokens program entry.redefines) (picture_tokens entry.picture) (sign_tokens entry.sign)
+    (sym (regrouped (redefines_tokens program entry.redefines) (picture_tokens entry.picture) (usage_tokens entry.usage) (sign_tokens entry.sign)
     (occurs_tokens entry.occurs) (value_tokens program entry.value) (ranges_tokens program entry.ranges) (kind.Period ∷ [])))
 
 entry-good : (program : Program) (entry : Entry) (units : List PrintUnit) → IsGivenEntry program entry → AreGood units →
     AreGood (entry_unit program entry ∷ units)
 entry-good program entry units h good =
-    let back : Tokens = back_tokens program entry.sign entry.occurs entry.value entry.ranges in
+    let back : Tokens = back_tokens program entry.usage entry.sign entry.occurs entry.value entry.ranges in
     let test : Bool = entry.level == 1 || entry.level == 77 in
     let is = entry-is (level_column entry.level) (front_tokens program entry) back entry.picture (level-low test) (level-high test) tt
-    h.front h.picture h.back (back-apart program entry.sign entry.occurs entry.value entry.ranges) in
+    h.front h.picture h.back (back-apart program entry.usage entry.sign entry.occurs entry.value entry.ranges) in
     good-cons (entry_unit program entry) units
     (subst (λ tokens. IsUnit (unit_at (level_column entry.level) tokens)) (entry-tokens program entry) is.0)
     (subst Steady (entry-tokens program entry) is.1) good

@@ -12,3 +12,5 @@ pub mod GivenLemmas
 pub mod ProgramsUnfold
 -- A program as units: the tokens of each of its lines, with the column from which they stand.
 pub mod units_lemmas
+-- What is printed of a mask.
+pub mod MaskLemmas

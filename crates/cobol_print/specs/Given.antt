@@ -18,7 +18,7 @@ use Rattle.unparser.specs.File.{name_tokens, file_tokens}
 use Rattle.unparser.specs.Place.{entry_name}
 use Rattle.cobol_print.specs.declared.units.unit.PrintUnit.{PrintUnit}
 use Rattle.cobol_print.specs.units.Picture.{picture_text}
-use Rattle.cobol_print.specs.units.Entry.{level_text, redefines_tokens, sign_tokens, occurs_tokens, value_tokens, ranges_tokens}
+use Rattle.cobol_print.specs.units.Entry.{level_text, redefines_tokens, usage_tokens, sign_tokens, occurs_tokens, value_tokens, ranges_tokens}
 use Rattle.cobol_print.specs.units.Division.{select_tokens, status_tokens, sentence_lines}
 use Rattle.cobol_print.specs.Unit.{is_ink}
 
@@ -45,7 +45,7 @@ IsGivenFile program file = AreFree (select_tokens file ++ status_tokens program 
 pub record IsPrintable (picture : List ℕ) : Type 0 where
   -- it is a picture
   pub whole : IsPicture picture
-  pub short : length picture ≤ 37
+  pub short : length picture ≤ 50
   -- each of its bytes can be printed
   pub ink : list_all is_ink picture ≡ true
   -- it isn't the word IS
@@ -69,8 +69,9 @@ pub record IsGivenEntry (program : Program) (entry : Entry) : Type 0 where
       ∷ redefines_tokens program entry.redefines)
   pub picture : IsGivenPicture entry.picture
   -- the clauses after the picture can be printed
-  pub back : AreFree (sign_tokens entry.sign ++ (occurs_tokens entry.occurs
-      ++ (value_tokens program entry.value ++ ranges_tokens program entry.ranges)))
+  pub back : AreFree (usage_tokens entry.usage ++ (sign_tokens entry.sign
+      ++ (occurs_tokens entry.occurs
+      ++ (value_tokens program entry.value ++ ranges_tokens program entry.ranges))))
 
 -- a line of statements can be printed
 abbrev pub IsGivenLine : PrintUnit → Type 0

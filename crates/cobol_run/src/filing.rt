@@ -20,7 +20,9 @@ use crate::frame::Frame;
 use crate::frames::push_stmts;
 use crate::held::{Held, Plan};
 use crate::next_step::stmts_or_none;
-use cob_act::files::{FileFault, ReadRequest, all_opened, all_shut, read_one, rewritten, written};
+use cob_act::files::{
+    FileFault, ReadRequest, WriteRequest, all_opened, all_shut, read_one, rewritten, written,
+};
 use cob_act::{ActOutcome, has_arms};
 use cob_store::Stack;
 use cob_tree::{Arms, Place, Stmt};
@@ -122,12 +124,18 @@ pub fn filed<'a>(
             push_arm(frames, arms, done)
         }
         Stmt::Write { entry, from } => {
-            let from = from.as_ref();
-            written(program, areas, store, scratch, bench, table, *entry, from)
+            let writing = WriteRequest {
+                entry: *entry,
+                from: from.as_ref(),
+            };
+            written(program, areas, store, scratch, bench, table, writing)
         }
         Stmt::Rewrite { entry, from } => {
-            let from = from.as_ref();
-            rewritten(program, areas, store, scratch, bench, table, *entry, from)
+            let writing = WriteRequest {
+                entry: *entry,
+                from: from.as_ref(),
+            };
+            rewritten(program, areas, store, scratch, bench, table, writing)
         }
         _ => Ok(ActOutcome::Went),
     }

@@ -6,3 +6,5 @@ pub mod StepLemmas
 pub mod FileLemmas
 -- What entries are judged by, in tables.
 pub mod TableLemmas
+-- Own usages of the entries of FDs.
+pub mod UsageLemmas

@@ -1,4 +1,5 @@
--- What a draft says of its entry by itself. 0 stands for each item that is redefined.
+-- What a draft says of its entry by itself. 0 stands for each item that is redefined, DISPLAY for
+-- each usage.
 use Rattle.std.specs.Prelude.{ℕ, ◌+◌, ◌-◌, ◌*◌, ◌^◌, min, Bool, true, false, ◌&&◌, ◌||◌, ◌==◌, nat_lt, nat_le, List, [], ◌∷◌, length, map, Option, Some, None, Result, Ok, Err, if◌then◌else◌}
 use Rattle.std.specs.List.{fold, list_any}
 use Rattle.cob_base.specs.Bytes.{digit_0}
@@ -7,6 +8,7 @@ use Rattle.cob_tree.specs.declared.entry.Span.{Span}
 use Rattle.cob_tree.specs.declared.picture.Picture.{Picture}
 use Rattle.cob_tree.specs.declared.picture.Sign.{Sign}
 use Rattle.cob_tree.specs.declared.picture.Sign.TheVariants as signs
+use Rattle.cob_tree.specs.declared.picture.Usage.TheVariants as usages
 use Rattle.cob_tree.specs.declared.place.Operand.{Operand}
 use Rattle.cobol_grammar.specs.declared.data_forms.draft.Clause.{Clause}
 use Rattle.cobol_grammar.specs.declared.data_forms.draft.Clause.TheVariants as drafts
@@ -120,6 +122,7 @@ condition_of draft file = record {
   redefines = None;
   picture = None;
   sign = signs.Within;
+  usage = usages.Display;
   occurs = None;
   value = None;
   ranges = map span_of (spans_of draft.clauses);
@@ -134,6 +137,7 @@ item_of draft level file = record {
   redefines = redefines_of draft.clauses;
   picture = picture_of draft.clauses;
   sign = sign_of draft.clauses;
+  usage = usages.Display;
   occurs = occurs_of draft.clauses;
   value = value_of (spans_of draft.clauses);
   ranges = [];

@@ -14,7 +14,7 @@ use Rattle.declaration_checks.specs.Fault.{fault_at}
 abbrev pub kind_of : Clause → ClauseKind
 kind_of (drafts.Redefines at name name_at) = kinds.Redefines
 kind_of (drafts.Picture at text text_at) = kinds.Picture
-kind_of (drafts.Usage at) = kinds.Usage
+kind_of (drafts.Usage at usage) = kinds.Usage
 kind_of (drafts.Sign at leading separate) = kinds.Sign
 kind_of (drafts.Occurs at count count_at) = kinds.Occurs
 kind_of (drafts.Value at spans) = kinds.Value
@@ -32,7 +32,7 @@ kind_number kinds.Value = 5
 abbrev pub position_of : Clause → Position
 position_of (drafts.Redefines at name name_at) = at
 position_of (drafts.Picture at text text_at) = at
-position_of (drafts.Usage at) = at
+position_of (drafts.Usage at usage) = at
 position_of (drafts.Sign at leading separate) = at
 position_of (drafts.Occurs at count count_at) = at
 position_of (drafts.Value at spans) = at

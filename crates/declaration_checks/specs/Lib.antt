@@ -10,6 +10,8 @@ pub mod Standing
 pub mod Literal
 -- The rules on levels, pictures, signs and repetitions.
 pub mod Item
+-- Usages, which groups hand down, and the rules on them.
+pub mod Usage
 -- The rules on VALUE.
 pub mod Value
 -- What an entry redefines.

@@ -6,7 +6,7 @@ ghost use Rattle.declaration_checks.specs.Base as bases;
 
 use crate::clause::{ClauseKind, clause_of, has_clause};
 use cob_base::{Copied, Items, NoMemory};
-use cob_tree::{Entry, Operand, Picture, Sign, Span};
+use cob_tree::{Entry, Operand, Picture, Sign, Span, Usage};
 use cobol_grammar::data_forms::{Clause, EntryDraft, SpanDraft, ThruDraft};
 use picture_data::read_picture;
 use std::alloc::Global;
@@ -188,6 +188,7 @@ fn condition(alloc: Global, draft: &EntryDraft, file: Option<u32>) -> Result<Ent
         redefines: None,
         picture: None,
         sign: Sign::Within,
+        usage: Usage::Display,
         occurs: None,
         value: None,
         ranges,
@@ -206,13 +207,14 @@ fn item(alloc: Global, draft: &EntryDraft, level: u8, file: Option<u32>) -> Resu
         redefines: redefines_of(clauses),
         picture: picture_of(clauses),
         sign: sign_of(clauses),
+        usage: Usage::Display,
         occurs: occurs_of(clauses),
         value,
         ranges: Items::new(alloc),
     })
 }
 
-/// The entry of a draft, with 0 for an item that it redefines.
+/// The entry of a draft, with 0 for an item that it redefines and DISPLAY for its usage.
 pub fn base_of(alloc: Global, draft: &EntryDraft, file: Option<u32>) -> Result<Entry, NoMemory>
     ensures { Makes (bases.base_of file draft.now) result }
 {

@@ -48,13 +48,14 @@ fn kind_of(clause: &Clause) -> ClauseKind
     }
 }
 
-fn position_of(clause: &Clause) -> Position
+/// Where a clause begins.
+pub fn position_of(clause: &Clause) -> Position
     ensures { result ≡ spec.position_of clause.now }
 {
     match clause {
         Clause::Redefines { at, .. } => *at,
         Clause::Picture { at, .. } => *at,
-        Clause::Usage { at } => *at,
+        Clause::Usage { at, .. } => *at,
         Clause::Sign { at, .. } => *at,
         Clause::Occurs { at, .. } => *at,
         Clause::Value { at, .. } => *at,

@@ -5,7 +5,7 @@ ghost use Rattle.std.specs.List.{fold};
 ghost use Rattle.cob_base.specs.Answers.{Makes};
 ghost use Rattle.declaration_checks.specs.Declaring as declaring;
 ghost use Rattle.declaration_checks.specs.FileNames.{names_of, selected};
-ghost use Rattle.declaration_checks.specs.Tables.{alikes_of};
+ghost use Rattle.declaration_checks.specs.Tables.{alikes_of, tables_of};
 
 use crate::base::base_of;
 use crate::file::{file_number, files_of};
@@ -13,10 +13,11 @@ use crate::file_names::{FileNames, file_names};
 use crate::judging::fault_by;
 use crate::redefining::redefined_in;
 use crate::standing::behind;
-use crate::table::tables_of;
+use crate::table::{Tables, tables_of};
+use crate::usage::{found_usage, own_usages};
 use cob_base::{Copied, Items, NoMemory};
 use cob_store::sizes::sizes_of;
-use cob_tree::{Entry, FileEntry, Picture};
+use cob_tree::{Entry, FileEntry, Picture, Usage};
 use cob_words::first_places::WordPlaces;
 use cobol_grammar::data_forms::{Divisions, EntryDraft, FdDraft, SelectDraft};
 use parser_combinators::Note;
@@ -127,18 +128,30 @@ fn redefines_of(
     }
 }
 
+fn usage_of(bases: &[Entry], usages: &[Option<Usage>], at: usize, entry: &Entry) -> Usage
+    ensures { result ≡ declaring.usage_of bases.now usages.now at entry.now }
+{
+    if is_group(entry, behind(bases, at)) {
+        return Usage::Display;
+    }
+    match found_usage(usages, at) {
+        None => Usage::Display,
+        Some(usage) => usage,
+    }
+}
+
 fn settled(
     alloc: Global,
     bases: &[Entry],
-    alikes: &[Option<usize>],
+    tables: &Tables,
     at: usize,
     draft: &EntryDraft,
     entry: &Entry,
 ) -> Result<Entry, NoMemory>
     requires short { length bases.now < 2 ^ 31 }
-    requires table { alikes.now ≡ alikes_of bases.now }
+    requires table { tables.now ≡ tables_of bases.now tables.now.usages }
     requires own { slice_get bases.now at ≡ Some entry.now }
-    ensures { Makes (declaring.settled bases.now at draft.now entry.now) result }
+    ensures { Makes (declaring.settled bases.now tables.now.usages at draft.now entry.now) result }
 {
     let value = entry.value.copy(alloc)?;
     let ranges = entry.ranges.copy(alloc)?;
@@ -146,9 +159,10 @@ fn settled(
         level: entry.level,
         name: entry.name,
         file: entry.file,
-        redefines: redefines_of(bases, alikes, at, entry, draft),
+        redefines: redefines_of(bases, tables.alikes.as_slice(), at, entry, draft),
         picture: picture_of(bases, at, entry),
         sign: entry.sign,
+        usage: usage_of(bases, tables.usages.as_slice(), at, entry),
         occurs: entry.occurs,
         value,
         ranges,
@@ -158,18 +172,19 @@ fn settled(
 fn settle(
     alloc: Global,
     bases: &[Entry],
-    alikes: &[Option<usize>],
+    tables: &Tables,
     entries: &mut Items<Entry>,
     draft: &EntryDraft,
 ) -> Result<(), NoMemory>
     requires short { length bases.now < 2 ^ 31 }
-    requires table { alikes.now ≡ alikes_of bases.now }
-    ensures { OnOk result (entries.new ≡ declaring.settle bases.now entries.old draft.now) }
+    requires table { tables.now ≡ tables_of bases.now tables.now.usages }
+    ensures { OnOk result (entries.new
+        ≡ declaring.settle bases.now tables.now.usages entries.old draft.now) }
 {
     let at = entries.len();
     match bases.get(at) {
         None => Ok(()),
-        Some(entry) => entries.push(settled(alloc, bases, alikes, at, draft, entry)?),
+        Some(entry) => entries.push(settled(alloc, bases, tables, at, draft, entry)?),
     }
 }
 
@@ -177,16 +192,17 @@ fn settle(
 fn settle_all(
     alloc: Global,
     bases: &[Entry],
-    alikes: &[Option<usize>],
+    tables: &Tables,
     entries: &mut Items<Entry>,
     drafts: &[EntryDraft],
 ) -> Result<(), NoMemory>
     requires short { length bases.now < 2 ^ 31 }
-    requires table { alikes.now ≡ alikes_of bases.now }
-    ensures { OnOk result (entries.new ≡ declaring.settle_all bases.now entries.old drafts.now) }
+    requires table { tables.now ≡ tables_of bases.now tables.now.usages }
+    ensures { OnOk result (entries.new
+        ≡ declaring.settle_all bases.now tables.now.usages entries.old drafts.now) }
 {
     for draft in drafts {
-        settle(alloc, bases, alikes, entries, draft)?;
+        settle(alloc, bases, tables, entries, draft)?;
     }
     Ok(())
 }
@@ -195,16 +211,17 @@ fn settle_all(
 fn settle_records(
     alloc: Global,
     bases: &[Entry],
-    alikes: &[Option<usize>],
+    tables: &Tables,
     fds: &[FdDraft],
 ) -> Result<Items<Entry>, NoMemory>
     requires short { length bases.now < 2 ^ 31 }
-    requires table { alikes.now ≡ alikes_of bases.now }
-    ensures { Makes (fold (declaring.settle_records bases.now) [] fds.now) result }
+    requires table { tables.now ≡ tables_of bases.now tables.now.usages }
+    ensures { Makes (fold (declaring.settle_records bases.now tables.now.usages) [] fds.now)
+        result }
 {
     let mut entries = Items::new(alloc);
     for fd in fds {
-        settle_all(alloc, bases, alikes, &mut entries, fd.entries.as_slice())?;
+        settle_all(alloc, bases, tables, &mut entries, fd.entries.as_slice())?;
     }
     Ok(entries)
 }
@@ -212,18 +229,18 @@ fn settle_records(
 fn settled_by(
     alloc: Global,
     bases: &[Entry],
-    alikes: &[Option<usize>],
+    tables: &Tables,
     divisions: &Divisions,
 ) -> Result<Items<Entry>, NoMemory>
     requires short { length bases.now < 2 ^ 31 }
-    requires table { alikes.now ≡ alikes_of bases.now }
-    ensures { Makes (declaring.settled_by bases.now divisions.now) result }
+    requires table { tables.now ≡ tables_of bases.now tables.now.usages }
+    ensures { Makes (declaring.settled_by bases.now tables.now.usages divisions.now) result }
 {
-    let mut entries = settle_records(alloc, bases, alikes, divisions.data_part.fds.as_slice())?;
+    let mut entries = settle_records(alloc, bases, tables, divisions.data_part.fds.as_slice())?;
     settle_all(
         alloc,
         bases,
-        alikes,
+        tables,
         &mut entries,
         divisions.data_part.storage.as_slice(),
     )?;
@@ -239,8 +256,9 @@ pub fn declared_of(alloc: Global, divisions: &Divisions) -> Result<Declared, NoM
     let selects = divisions.selects.as_slice();
     let names = file_names(alloc, selects, divisions.data_part.fds.as_slice())?;
     let bases = bases_of(alloc, divisions, &names)?;
-    let tables = tables_of(alloc, bases.as_slice())?;
-    let entries = settled_by(alloc, bases.as_slice(), tables.alikes.as_slice(), divisions)?;
+    let owns = own_usages(alloc, &divisions.data_part)?;
+    let tables = tables_of(alloc, bases.as_slice(), owns.as_slice())?;
+    let entries = settled_by(alloc, bases.as_slice(), &tables, divisions)?;
     let sizes = sizes_of(alloc, entries.as_slice())?;
     let fault = fault_by(
         bases.as_slice(),

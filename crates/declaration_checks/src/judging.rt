@@ -30,8 +30,8 @@ fn judge(
     draft: &EntryDraft,
 ) -> Judged
     requires short { length bases.now < 2 ^ 31 }
-    requires table { tables.now ≡ tables_of bases.now }
-    ensures { result ≡ declaring.judge bases.now sizes.now judged draft.now }
+    requires table { tables.now ≡ tables_of bases.now tables.now.usages }
+    ensures { result ≡ declaring.judge bases.now sizes.now tables.now.usages judged draft.now }
 {
     let at = judged.at;
     match bases.get(at) {
@@ -55,8 +55,9 @@ fn judge_all(
     drafts: &[EntryDraft],
 ) -> Judged
     requires short { length bases.now < 2 ^ 31 }
-    requires table { tables.now ≡ tables_of bases.now }
-    ensures { result ≡ declaring.judge_all bases.now sizes.now judged drafts.now }
+    requires table { tables.now ≡ tables_of bases.now tables.now.usages }
+    ensures { result
+        ≡ declaring.judge_all bases.now sizes.now tables.now.usages judged drafts.now }
 {
     let mut found = judged;
     for draft in drafts {
@@ -74,8 +75,9 @@ fn judge_records(
     fds: &[FdDraft],
 ) -> Judged
     requires short { length bases.now < 2 ^ 31 }
-    requires table { tables.now ≡ tables_of bases.now }
-    ensures { result ≡ fold (declaring.judge_records bases.now sizes.now) judged fds.now }
+    requires table { tables.now ≡ tables_of bases.now tables.now.usages }
+    ensures { result
+        ≡ fold (declaring.judge_records bases.now sizes.now tables.now.usages) judged fds.now }
 {
     let mut found = judged;
     for fd in fds {
@@ -104,9 +106,9 @@ pub fn fault_by(
 ) -> Option<Note>
     requires short { length bases.now < 2 ^ 31 }
     requires names { names.now ≡ names_of divisions.now.selects divisions.now.data_part.fds }
-    requires table { tables.now ≡ tables_of bases.now }
-    ensures { result ≡ (declaring.judged_by bases.now sizes.now (declaring.start_of divisions.now)
-        divisions.now).fault }
+    requires table { tables.now ≡ tables_of bases.now tables.now.usages }
+    ensures { result ≡ (declaring.judged_by bases.now sizes.now tables.now.usages
+        (declaring.start_of divisions.now) divisions.now).fault }
 {
     let start = Judged {
         at: 0,

@@ -123,8 +123,8 @@ fn fits_picture(literal: &Operand, picture: Option<Picture>, size: u32) -> bool
 }
 
 /// Whether a literal fits an item.
-pub fn fits(literal: &Operand, target: LiteralTarget) -> bool
-    ensures { result ≡ literals.fits literal.now target }
+pub fn fits(literal: &Operand, target: &LiteralTarget) -> bool
+    ensures { result ≡ literals.fits literal.now target.now }
 {
     if target.group {
         fits_text(literal, target.size)

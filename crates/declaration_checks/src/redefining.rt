@@ -104,7 +104,7 @@ fn redefined_fault(
     name: &Word,
     name_at: Position,
 ) -> Option<Note>
-    requires table { tables.now ≡ tables_of bases.now }
+    requires table { tables.now ≡ tables_of bases.now tables.now.usages }
     requires own { slice_get bases.now at ≡ Some entry.now }
     ensures { result ≡ redefining.redefined_fault bases.now sizes.now at entry.now name.now
         name_at }
@@ -128,7 +128,7 @@ pub fn redefines_fault(
     entry: &Entry,
     clauses: &[Clause],
 ) -> Option<Note>
-    requires table { tables.now ≡ tables_of bases.now }
+    requires table { tables.now ≡ tables_of bases.now tables.now.usages }
     requires own { slice_get bases.now at ≡ Some entry.now }
     ensures { result ≡ redefining.redefines_fault bases.now sizes.now at entry.now clauses.now }
 {

@@ -14,8 +14,9 @@ use crate::literal::LiteralTarget;
 use crate::redefining::{redefines_fault, size_at};
 use crate::standing::{Standing, standing_of};
 use crate::table::Tables;
+use crate::usage::{usage_above, usage_fault};
 use crate::value::{missing_fault, spans_fault, value_fault};
-use cob_tree::Entry;
+use cob_tree::{Entry, Usage};
 use cobol_grammar::data_forms::EntryDraft;
 use parser_combinators::{NameKind, Note};
 use symbol_tables::data_names::{Nesting, nesting_at};
@@ -50,7 +51,7 @@ fn fits_at(
     match base_at(bases, item) {
         None => None,
         Some(entry) => spans_fault(
-            target_by(nesting_at(nestings, item).group, sizes, item, entry),
+            &target_by(nesting_at(nestings, item).group, sizes, item, entry),
             spans_of(draft.clauses.as_slice()),
         ),
     }
@@ -90,22 +91,22 @@ fn condition_fault(
 
 fn clauses_fault(
     entry: &Entry,
-    target: LiteralTarget,
+    target: &LiteralTarget,
     standing: Standing,
+    above: Option<Usage>,
     draft: &EntryDraft,
 ) -> Option<Note>
-    ensures { result ≡ rules.clauses_fault entry.now target standing draft.now }
+    ensures { result ≡ rules.clauses_fault entry.now target.now standing above draft.now }
 {
     let clauses = draft.clauses.as_slice();
     let again = duplicate_fault(clauses);
     let picture = picture_fault(entry.picture, target.group, draft.at, clauses);
+    let usage = usage_fault(entry.picture, target.group, above, draft.at, clauses);
     let sign = sign_fault(entry.picture, target.group, clauses);
     let occurs = occurs_fault(entry.level, standing.dims, clauses);
     let value = value_fault(entry, target, standing.barred, clauses);
-    first_of(
-        first_of(first_of(first_of(again, picture), sign), occurs),
-        value,
-    )
+    let pictured = first_of(first_of(again, picture), usage);
+    first_of(first_of(first_of(pictured, sign), occurs), value)
 }
 
 fn item_fault(
@@ -117,16 +118,18 @@ fn item_fault(
     draft: &EntryDraft,
 ) -> Option<Note>
     requires short { length bases.now < 2 ^ 31 }
-    requires table { tables.now ≡ tables_of bases.now }
+    requires table { tables.now ≡ tables_of bases.now tables.now.usages }
     requires own { slice_get bases.now at ≡ Some entry.now }
-    ensures { result ≡ rules.item_fault bases.now sizes.now at entry.now draft.now }
+    ensures { result
+        ≡ rules.item_fault bases.now sizes.now tables.now.usages at entry.now draft.now }
 {
     let nestings = tables.nestings.as_slice();
     let nesting = nesting_at(nestings, at);
     let target = target_by(nesting.group, sizes, at, entry);
     let standing = standing_of(bases, nestings, nesting.holder);
+    let above = usage_above(tables.usages.as_slice(), nesting.holder);
     first_of(
-        clauses_fault(entry, target, standing, draft),
+        clauses_fault(entry, &target, standing, above, draft),
         redefines_fault(bases, sizes, tables, at, entry, draft.clauses.as_slice()),
     )
 }
@@ -141,9 +144,10 @@ fn held_fault(
     holder: Option<usize>,
 ) -> Option<Note>
     requires short { length bases.now < 2 ^ 31 }
-    requires table { tables.now ≡ tables_of bases.now }
+    requires table { tables.now ≡ tables_of bases.now tables.now.usages }
     requires own { slice_get bases.now at ≡ Some entry.now }
-    ensures { result ≡ rules.held_fault bases.now sizes.now at entry.now draft.now holder }
+    ensures { result
+        ≡ rules.held_fault bases.now sizes.now tables.now.usages at entry.now draft.now holder }
 {
     if !level_stands(entry.level, holder) {
         return fault_at(NameKind::Level, draft.at);
@@ -165,9 +169,10 @@ pub fn entry_fault(
     draft: &EntryDraft,
 ) -> Option<Note>
     requires short { length bases.now < 2 ^ 31 }
-    requires table { tables.now ≡ tables_of bases.now }
+    requires table { tables.now ≡ tables_of bases.now tables.now.usages }
     requires own { slice_get bases.now at ≡ Some entry.now }
-    ensures { result ≡ rules.entry_fault bases.now sizes.now at entry.now draft.now }
+    ensures { result
+        ≡ rules.entry_fault bases.now sizes.now tables.now.usages at entry.now draft.now }
 {
     let holder = nesting_at(tables.nestings.as_slice(), at).holder;
     held_fault(bases, sizes, tables, at, entry, draft, holder)

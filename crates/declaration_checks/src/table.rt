@@ -6,9 +6,11 @@ ghost use Rattle.cob_base.specs.Answers.{Makes};
 ghost use Rattle.symbol_tables.specs.data_names.Grouping.{word_list};
 ghost use Rattle.declaration_checks.specs.Redefining as redefining;
 ghost use Rattle.declaration_checks.specs.Tables as tables;
+ghost use Rattle.declaration_checks.specs.Usage as usages;
 
+use crate::usage::usages_of;
 use cob_base::{Items, NoMemory, Word};
-use cob_tree::Entry;
+use cob_tree::{Entry, Usage};
 use cob_words::first_places::WordPlaces;
 use std::alloc::Global;
 use symbol_tables::data_names::{Nesting, bound_of, holds, nestings_of, same_file};
@@ -20,6 +22,8 @@ pub struct Tables {
     /// For each entry the last one before it with the same level and group that redefines nothing.
     pub alikes: Items<Option<usize>>,
     pub names: WordPlaces,
+    /// The usage of each entry, by its clause or handed down to it.
+    pub usages: Items<Option<Usage>>,
 }
 
 /// What the table has for the entry of this number.
@@ -101,16 +105,22 @@ fn names_in(alloc: Global, entries: &[Entry]) -> Result<Items<Word>, NoMemory>
     Ok(names)
 }
 
-/// The tables of these entries.
-pub fn tables_of(alloc: Global, entries: &[Entry]) -> Result<Tables, NoMemory>
-    ensures { Makes (tables.tables_of entries.now) result }
+/// The tables of these entries, which have these usages of their own.
+pub fn tables_of(
+    alloc: Global,
+    entries: &[Entry],
+    owns: &[Option<Usage>],
+) -> Result<Tables, NoMemory>
+    ensures { Makes (tables.tables_of entries.now (usages.usages_of entries.now owns.now)) result }
 {
     let nestings = nestings_of(alloc, entries)?;
     let alikes = alikes_of(alloc, entries)?;
     let names = WordPlaces::of(alloc, names_in(alloc, entries)?)?;
+    let usages = usages_of(alloc, entries, nestings.as_slice(), owns)?;
     Ok(Tables {
         nestings,
         alikes,
         names,
+        usages,
     })
 }

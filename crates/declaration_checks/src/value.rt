@@ -20,8 +20,8 @@ pub fn missing_fault(at: Position, clauses: &[Clause]) -> Option<Note>
     }
 }
 
-fn to_fault(target: LiteralTarget, thru: &Option<ThruDraft>) -> Option<Note>
-    ensures { result ≡ values.to_fault target thru.now }
+fn to_fault(target: &LiteralTarget, thru: &Option<ThruDraft>) -> Option<Note>
+    ensures { result ≡ values.to_fault target.now thru.now }
 {
     match thru {
         None => None,
@@ -29,8 +29,8 @@ fn to_fault(target: LiteralTarget, thru: &Option<ThruDraft>) -> Option<Note>
     }
 }
 
-fn span_fault(target: LiteralTarget, span: &SpanDraft) -> Option<Note>
-    ensures { result ≡ values.span_fault target span.now }
+fn span_fault(target: &LiteralTarget, span: &SpanDraft) -> Option<Note>
+    ensures { result ≡ values.span_fault target.now span.now }
 {
     first_of(
         unless(fits(&span.from, target), NameKind::Value, span.from_at),
@@ -40,8 +40,8 @@ fn span_fault(target: LiteralTarget, span: &SpanDraft) -> Option<Note>
 
 /// The fault of the values of a level 88.
 #[tactic(auto, using(crate::proofs::StepLemmas::fold_step))]
-pub fn spans_fault(target: LiteralTarget, spans: &[SpanDraft]) -> Option<Note>
-    ensures { result ≡ values.spans_fault target spans.now }
+pub fn spans_fault(target: &LiteralTarget, spans: &[SpanDraft]) -> Option<Note>
+    ensures { result ≡ values.spans_fault target.now spans.now }
 {
     let mut fault = None;
     for span in spans {
@@ -75,8 +75,8 @@ fn second_fault(spans: &[SpanDraft]) -> Option<Note>
     }
 }
 
-fn literals_fault(target: LiteralTarget, spans: &[SpanDraft]) -> Option<Note>
-    ensures { result ≡ values.literals_fault target spans.now }
+fn literals_fault(target: &LiteralTarget, spans: &[SpanDraft]) -> Option<Note>
+    ensures { result ≡ values.literals_fault target.now spans.now }
 {
     match spans {
         [] => None,
@@ -93,11 +93,11 @@ fn literals_fault(target: LiteralTarget, spans: &[SpanDraft]) -> Option<Note>
 /// The fault of an item's VALUE clause; `barred` says that a group above it bars one.
 pub fn value_fault(
     entry: &Entry,
-    target: LiteralTarget,
+    target: &LiteralTarget,
     barred: bool,
     clauses: &[Clause],
 ) -> Option<Note>
-    ensures { result ≡ values.value_fault entry.now target barred clauses.now }
+    ensures { result ≡ values.value_fault entry.now target.now barred clauses.now }
 {
     match clause_of(ClauseKind::Value, clauses) {
         Some(Clause::Value { at, spans }) => first_of(

@@ -21,3 +21,5 @@ pub mod MasksAreWrittenOut
 pub mod NegativesAreMarked
 pub mod PrintedMasksAreRead
 pub mod PrintedMasksAreShort
+-- How a mask is held: written out, short and in capitals.
+pub mod HeldMasks

@@ -1,9 +1,10 @@
 //! Edited pictures: masks, and what a number shows through one.
 //!
 //! `mask_fault` judges the text of a mask, `mask_digits` and `mask_size` say how many digits and
-//! bytes it has, and `edit` writes what a number shows. `specs/Shape`, on which symbol may follow
-//! which, and `specs/Edited`, with one case for each rule, are to be compared with ISO 1989:1985,
-//! PICTURE clause; docs/DECISIONS.md has what is narrower here. These laws support them: what was
+//! bytes it has, and `edit` writes what a number shows. A `Mask` is one that a program holds, with
+//! these as its methods. `specs/Shape`, on which symbol may follow which, and `specs/Edited`, with
+//! one case for each rule, are to be compared with ISO 1989:1985, PICTURE clause; docs/DECISIONS.md
+//! has what is narrower here. These laws support them: what was
 //! shown is read back (`numbers_are_read_back`), a sign is shown where the number is negative, and
 //! only there (`negatives_are_marked`, `only_negatives_are_marked`), a fault of order is at the
 //! first byte up to which no mask begins (`beginnings_go_on`), and masks with counts mean those
@@ -16,9 +17,11 @@ mod extent;
 mod fault;
 mod field;
 pub mod laws;
+mod mask;
 mod reading;
 mod shape;
 mod symbol;
+mod symbols;
 #[cfg(test)]
 mod tests;
 
@@ -30,6 +33,7 @@ pub use edited::{Pen, edit, mask_size};
 pub use extent::Extent;
 pub use fault::MaskFault;
 pub use field::{Digits, Field, mask_digits};
+pub use mask::Mask;
 pub use reading::{Place, Reading, is_written_out};
 pub use shape::{Shape, Stage};
 

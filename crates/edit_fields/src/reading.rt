@@ -40,7 +40,8 @@ pub fn is_written_out(text: &[u8]) -> bool
     text.iter().all(|byte| !is_parenthesis(*byte))
 }
 
-fn is_digit(byte: u8) -> bool
+/// Whether it is a digit of a count.
+pub fn is_digit(byte: u8) -> bool
     ensures { result ≡ readings.is_digit byte }
 {
     byte >= b'0' && byte <= b'9'
@@ -68,8 +69,8 @@ fn symbol_fault(position: u32, byte: u8) -> MaskFault
     }
 }
 
-// The count with one more digit; it stays at 200, where a mask is too long.
-fn counted(count: u8, digit: u8) -> u8
+/// The count with one more digit; it stays at 200, where a mask is too long.
+pub fn counted(count: u8, digit: u8) -> u8
     requires { digit ≤ 9 }
     ensures { result ≡ readings.counted count digit }
 {

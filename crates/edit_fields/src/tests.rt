@@ -2,7 +2,7 @@
 
 ghost use Rattle.std.specs.Prelude.{◌≤◌};
 
-use crate::{MaskFault, edit, is_written_out, mask_fault, mask_size};
+use crate::{Digits, Mask, MaskFault, edit, is_written_out, mask_fault, mask_size};
 use cob_num::Dec;
 
 fn number(value: i64, scale: u8) -> Dec
@@ -86,4 +86,36 @@ fn faults_have_places(rt: HostRuntime) {
             assert_eq!(rt; mask_fault(text), want);
         }
     }
+}
+
+// Whether the text is a mask of that size and of those symbols, and then its bytes.
+fn holds(text: &[u8], symbols: &[u8], digits: Digits, value: Dec, into: &mut [u8]) -> bool {
+    if text.len() > 160 {
+        return false;
+    }
+    match Mask::new(text) {
+        Ok(mask) => {
+            if mask.size() as usize != into.len() {
+                return false;
+            }
+            mask.edit(value, into);
+            mask.as_slice() == symbols && mask.digits() == digits
+        }
+        Err(_) => false,
+    }
+}
+
+#[test]
+fn masks_are_held(rt: HostRuntime) {
+    let mut into = [0; 10];
+    let digits = Digits { whole: 6, part: 2 };
+    let held = holds(
+        b"z(3),z(3).9(2)",
+        b"ZZZ,ZZZ.99",
+        digits,
+        number(123456, 2),
+        &mut into,
+    );
+    assert_eq!(rt; held, true);
+    assert_eq!(rt; &into[..], b"  1,234.56".as_slice());
 }

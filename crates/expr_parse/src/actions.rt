@@ -25,7 +25,7 @@ pub use crate::actions::either::{
 };
 pub use crate::actions::fault::{
     condition_fault, found_fault, is_condition, is_whole, item_of, kind_of, last_fault,
-    number_fault, relation_fault, value_fault, whole_fault, whole_fault_at,
+    number_fault, relation_fault, result_fault, value_fault, whole_fault, whole_fault_at,
 };
 pub use crate::actions::limit::count_terms;
 pub use crate::actions::side::{

@@ -30,7 +30,7 @@ use Rattle.fixed_point.specs.Paths.{with_returning, IsUncutFront, IsTableOf}
 use Rattle.fixed_point.specs.Written.{NamesAlike}
 use Rattle.fixed_point.specs.Fixed.{stands_in, result_by}
 use Rattle.fixed_point_laws.specs.Entering.{IsFirstWritten, ResultsAreEntered}
-use Rattle.fixed_point.proofs.ReturnsReached.{returns-stand}
+use Rattle.control_flow_theory.proofs.main_theorem_lemmas.calls.CallsReached.{returns-stand}
 use Rattle.fixed_point.proofs.ReturnsKept.{closed-returns}
 use Rattle.fixed_point.proofs.Procedures.{procedures-tight}
 use Rattle.fixed_point.proofs.WrittenUncut.{written-uncut, pass-so}

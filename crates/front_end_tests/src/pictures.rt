@@ -1,8 +1,16 @@
-//! Pictures and what is read of them.
+//! Pictures and masks, and what is read of them.
 
 use cob_tree::Picture;
 use picture_data::{PictureFault, read_picture};
 use std::test::Fail;
+
+// The picture of a text that isn't longer than any source.
+fn read(text: &[u8]) -> Result<Picture, PictureFault> {
+    if text.len() >= 1 << 31 {
+        return Err(PictureFault::BadOrder(0));
+    }
+    read_picture(text)
+}
 
 #[test]
 fn pictures(rt: HostRuntime) -> Result<(), Fail> {
@@ -11,7 +19,7 @@ fn pictures(rt: HostRuntime) -> Result<(), Fail> {
         whole,
         part,
     });
-    let rows: [(&[u8], Result<Picture, PictureFault>); 25] = [
+    let rows: [(&[u8], Result<Picture, PictureFault>); 33] = [
         (b"9", number(false, 1, 0)),
         (b"s9(4)v99", number(true, 4, 2)),
         (b"S9(5)V99", number(true, 5, 2)),
@@ -22,7 +30,7 @@ fn pictures(rt: HostRuntime) -> Result<(), Fail> {
         (b"9(19)X", Ok(Picture::Any(20))),
         (b"X(65535)", Ok(Picture::Any(65535))),
         (b"", Err(PictureFault::BadOrder(1))),
-        (b"9Z", Err(PictureFault::BadSymbol(2))),
+        (b"9Q", Err(PictureFault::BadSymbol(2))),
         (b"1", Err(PictureFault::BadSymbol(1))),
         (b"9(19)", Err(PictureFault::TooManyDigits(5))),
         (b"9(19)V", Err(PictureFault::TooManyDigits(6))),
@@ -37,9 +45,35 @@ fn pictures(rt: HostRuntime) -> Result<(), Fail> {
         (b"9()", Err(PictureFault::BadOrder(3))),
         (b"X(65536)", Err(PictureFault::BadOrder(7))),
         (b"9(2", Err(PictureFault::BadOrder(3))),
+        (b"9Z", Err(PictureFault::BadOrder(2))),
+        (b"Z9Z", Err(PictureFault::BadOrder(3))),
+        (b"ZZ,", Err(PictureFault::BadOrder(3))),
+        (b"z9X", Err(PictureFault::BadOrder(3))),
+        (b"S9.9", Err(PictureFault::BadOrder(1))),
+        (b"90A", Err(PictureFault::BadOrder(3))),
+        (b"Z1", Err(PictureFault::BadSymbol(2))),
+        (b"Z(19)", Err(PictureFault::TooManyDigits(5))),
     ];
     for (text, expected) in rows {
-        assert_eq!(rt; read_picture(text), expected);
+        assert_eq!(rt; read(text), expected);
     }
     Ok(())
+}
+
+#[test]
+fn masks(rt: HostRuntime) {
+    let rows: [(&[u8], &[u8]); 8] = [
+        (b"ZZ,ZZ9.99", b"Z(2),Z(2)9.9(2)"),
+        (b"$$,$$9.99CR", b"$(2),$(2)9.99cr"),
+        (b"+++9", b"+(3)9"),
+        (b"***,**9", b"*(3),**9"),
+        (b"99/99/99", b"9(2)/9(02)/99"),
+        (b"ZZZV99", b"z(3)v9(2)"),
+        (b"99999999990", b"9(10)0"),
+        (b"999DB", b"9(3)db"),
+    ];
+    for (mask, counted) in rows {
+        assert_eq!(rt; read(mask).is_ok(), true);
+        assert_eq!(rt; read(counted), read(mask));
+    }
 }

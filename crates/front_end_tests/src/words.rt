@@ -24,13 +24,18 @@ fn numbers_words(rt: HostRuntime) -> Result<(), Fail> {
 
 #[test]
 fn lists(rt: HostRuntime) -> Result<(), Fail> {
-    for text in [b"ACCESS".as_slice(), b"move", b"ZEROS", b"WORKING-STORAGE"] {
+    for text in [b"ACCESS".as_slice(), b"move", b"comp-3", b"COMPUTATIONAL-3"] {
         assert_eq!(rt;
             (reserved(&word(text)?), left_out(&word(text)?)),
             (true, false)
         );
     }
-    for text in [b"ACCEPT".as_slice(), b"USE", b"comp-3", b"COMPUTATIONAL-3"] {
+    for text in [
+        b"ACCEPT".as_slice(),
+        b"USE",
+        b"special-names",
+        b"SYNCHRONIZED",
+    ] {
         assert_eq!(rt;
             (reserved(&word(text)?), left_out(&word(text)?)),
             (false, true)

@@ -13,6 +13,7 @@ use Rattle.picture_data.specs.declared.reading.SymbolPosition.{SymbolPosition}
 use Rattle.picture_data.specs.declared.reading.SymbolPosition.TheVariants as places
 use Rattle.picture_data.specs.declared.reading.Reading.{Reading}
 use Rattle.picture_data.specs.Fault.{fault_at}
+use Rattle.picture_data.specs.Edited.{edited_picture, is_edited}
 use Rattle.picture_data.specs.Symbols.{symbol_s, symbol_v, symbol_9, symbol_a, symbol_x, behind, added, too_many, picture}
 
 -- the picture before the first byte
@@ -108,6 +109,10 @@ read_from count (Ok reading) [] = ended count (finish reading)
 read_from count (Ok reading) (byte ∷ rest) =
     read_from (count + 1) (step (to_ascii_uppercase byte) reading) rest
 
+-- the picture of a text that is no mask, or the first fault
+abbrev pub plain_picture : List ℕ → Result Picture PictureFault
+plain_picture text = read_from 0 (Ok start) text
+
 -- the picture of a text, or the first fault
 abbrev pub picture_of : List ℕ → Result Picture PictureFault
-picture_of text = read_from 0 (Ok start) text
+picture_of text = if is_edited text then edited_picture text else plain_picture text

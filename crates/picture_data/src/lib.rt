@@ -1,19 +1,21 @@
 //! Pictures: from the text after PIC to what an item holds.
 //!
-//! `read_picture` reads numbers (S, 9 and V) and characters (X, A and 9), with counts;
-//! `specs/Reading` is to be compared with ISO 1989:1985, PICTURE clause. Edited pictures aren't
-//! read. The byte that a fault names is the first up to which no picture begins, or the last where
-//! more are needed.
+//! `read_picture` reads numbers (S, 9 and V), characters (X, A and 9) and masks, with counts.
+//! `specs/Reading` and `specs/Edited` are to be compared with ISO 1989:1985, PICTURE clause. The
+//! byte that a fault names is the first up to which no picture begins, or the last where more are
+//! needed; where an X, A or S is in a mask, the first of these.
 #![tactic(auto)]
 
+mod edited;
 mod fault;
 mod reading;
 mod symbols;
 
 ghost use Rattle.std.specs.Prelude.{◌≡◌, ◌<◌, ◌^◌, length};
-ghost use Rattle.picture_data.specs.Reading as readings;
 ghost use Rattle.picture_data.specs.Reading.{picture_of};
 
+use crate::edited::{edited_picture, is_edited};
+use crate::reading::plain_picture;
 use cob_tree::Picture;
 pub use fault::PictureFault;
 pub use reading::{Reading, SymbolPosition};
@@ -24,21 +26,9 @@ pub fn read_picture(text: &[u8]) -> Result<Picture, PictureFault>
     requires { length text.now < 2 ^ 31 }
     ensures { result ≡ picture_of text.now }
 {
-    let mut reading = Reading::start();
-    for (before, byte) in text.iter().enumerate() {
-        match reading.step(byte.to_ascii_uppercase()) {
-            Ok(next) => reading = next,
-            Err(flaw) => return Err(flaw.at(before as u32 + 1)),
-        }
+    if is_edited(text) {
+        edited_picture(text)
+    } else {
+        plain_picture(text)
     }
-    match reading.finish() {
-        Ok(picture) => Ok(picture),
-        Err(flaw) => Err(flaw.at(last_position(text.len() as u32))),
-    }
-}
-
-fn last_position(count: u32) -> u32
-    ensures { result ≡ readings.last_position count }
-{
-    if count == 0 { 1 } else { count }
 }

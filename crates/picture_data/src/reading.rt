@@ -1,9 +1,9 @@
 //! A picture's text, read byte by byte.
 
-ghost use Rattle.std.specs.Prelude.{◌≡◌, ◌<◌};
+ghost use Rattle.std.specs.Prelude.{◌≡◌, ◌<◌, ◌^◌, length};
 ghost use Rattle.picture_data.specs.Reading as readings;
 
-use crate::fault::Flaw;
+use crate::fault::{Flaw, PictureFault};
 use crate::symbols::{Shape, Symbols};
 use cob_tree::Picture;
 
@@ -137,4 +137,28 @@ fn flaw_of(byte: u8) -> Flaw
         b'S' | b'V' | b'9' | b'A' | b'X' | b'(' | b')' => Flaw::Order,
         _ => Flaw::Symbol,
     }
+}
+
+/// The picture of a text that is no mask, its letters in either case.
+pub fn plain_picture(text: &[u8]) -> Result<Picture, PictureFault>
+    requires { length text.now < 2 ^ 31 }
+    ensures { result ≡ readings.plain_picture text.now }
+{
+    let mut reading = Reading::start();
+    for (before, byte) in text.iter().enumerate() {
+        match reading.step(byte.to_ascii_uppercase()) {
+            Ok(next) => reading = next,
+            Err(flaw) => return Err(flaw.at(before as u32 + 1)),
+        }
+    }
+    match reading.finish() {
+        Ok(picture) => Ok(picture),
+        Err(flaw) => Err(flaw.at(last_position(text.len() as u32))),
+    }
+}
+
+fn last_position(count: u32) -> u32
+    ensures { result ≡ readings.last_position count }
+{
+    if count == 0 { 1 } else { count }
 }

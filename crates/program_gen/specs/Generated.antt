@@ -12,6 +12,7 @@ use Rattle.cob_tree.specs.declared.calc.Calc.TheVariants.{Add}
 use Rattle.cob_tree.specs.declared.control.Control.TheVariants.{Once}
 use Rattle.cob_tree.specs.declared.picture.Picture.TheVariants as picture
 use Rattle.cob_tree.specs.declared.picture.Sign.TheVariants.{Within}
+use Rattle.cob_tree.specs.declared.picture.Usage.TheVariants as usage
 use Rattle.cob_tree.specs.declared.entry.Entry.{Entry}
 use Rattle.cob_tree.specs.declared.stmt.Arms.{roll-Arms}
 use Rattle.cob_tree.specs.declared.stmt.Stmt.{Stmt}
@@ -49,6 +50,7 @@ counter_entry = record {
   redefines = None;
   picture = Some (picture.Number false 6 0);
   sign = Within;
+  usage = usage.Display;
   occurs = None;
   value = Some (operand.Number (whole 0));
   ranges = [];

@@ -7,7 +7,7 @@ ghost use Rattle.program_gen.specs.Generated.{counter, counter_entry, count_one,
 use cob_base::{Items, NoMemory, Word};
 use cob_tree::{
     Arms, Calc, Cond, Digits, Entry, Expr, Number, Operand, Paragraph, Picture, Place, Rel,
-    Sentence, Sign, Stmt, Target,
+    Sentence, Sign, Stmt, Target, Usage,
 };
 use cob_words::numbered::{capital_word, numbered, numbered_text};
 use std::alloc::Global;
@@ -61,6 +61,7 @@ pub fn counter_entry(alloc: Global) -> Result<Entry, NoMemory>
             part: 0,
         }),
         sign: Sign::Within,
+        usage: Usage::Display,
         occurs: None,
         value: Some(Operand::Number(zero)),
         ranges: Items::new(alloc),

@@ -1,5 +1,5 @@
 -- Reading is the rule on all bytes, and values have one spelling.
-use Rattle.std.proofs.Common.{◌≡◌, ℕ, zero, suc, ◌+◌, ◌-◌, ◌*◌, ◌%◌, ◌^◌, ◌<◌, ◌≤◌, ◌⊎◌, Bool, true, false, ◌&&◌, ◌||◌, ◌==◌, List, [], ◌∷◌, ◌++◌, length, take, drop, replicate, Option, Some, None, ℤ, pos, negsuc, neg_ℤ, ◌≤ℤ◌, unsigned_abs, nat_le, if◌then◌else◌, arith, refl, sym, ap, ap₂, ◌∙◌, subst, inl, inr, lit<, leb-true, eqb-true, mod-lt, length-drop, length-take-le, take-append-drop}
+use Rattle.std.proofs.Common.{◌≡◌, ℕ, zero, suc, ◌+◌, ◌-◌, ◌*◌, ◌%◌, ◌^◌, ◌<◌, ◌≤◌, ◌⊎◌, Bool, true, false, ◌&&◌, ◌||◌, ◌==◌, List, [], ◌∷◌, ◌++◌, length, take, drop, replicate, Option, Some, None, IfSome, ℤ, pos, negsuc, neg_ℤ, ◌≤ℤ◌, unsigned_abs, nat_le, if◌then◌else◌, arith, refl, sym, ap, ap₂, ◌∙◌, subst, inl, inr, lit<, leb-true, eqb-true, mod-lt, length-drop, length-take-le, take-append-drop}
 use Rattle.std.proofs.lemmas.Int.{ints}
 use Rattle.std.proofs.lemmas.Int.Digits.{number_lt}
 use Rattle.std.proofs.lemmas.List.Elements.{recursion_from_All}
@@ -133,6 +133,11 @@ packed-read bytes digits signed value size e =
       sign = told.1;
       halves = spelled.1 ∙ ap (λ (n : ℕ). replicate (fill_count digits) 0 ++ low_digits 10 digits n ++ last_half bytes ∷ []) (sym told.0);
     })
+
+-- what is read has at most the item's digits
+pub packed-short : (bytes : List ℕ) (digits : ℕ) (signed : Bool) (found : Option ℤ) → length bytes ≡ packed_size digits → found ≡ packed_value bytes digits signed → IfSome found (λ (value : ℤ). unsigned_abs value < 10 ^ digits)
+packed-short bytes digits signed None size e = tt
+packed-short bytes digits signed (Some value) size e = (packed-read bytes digits signed value size (sym e)).short
 
 pub packed-rule : (bytes : List ℕ) (digits : ℕ) (signed : Bool) (value : ℤ) → AreBytes (packed_size digits) bytes → (packed_value bytes digits signed ≡ Some value → IsPacked bytes digits signed value) × (IsPacked bytes digits signed value → packed_value bytes digits signed ≡ Some value)
 packed-rule bytes digits signed value are = (

@@ -1,6 +1,6 @@
 //! Binary items: two's complement, the most significant byte first.
 
-ghost use Rattle.std.specs.Prelude.{◌≡◌, ◌*◌, ◌^◌, ◌<◌, ◌≤◌, length, unsigned_abs};
+ghost use Rattle.std.specs.Prelude.{◌≡◌, ◌*◌, ◌^◌, ◌<◌, ◌≤◌, length, unsigned_abs, IfSome};
 ghost use Rattle.std.specs.Int.Digits.{number_from_digits};
 ghost use Rattle.stored_forms.specs.Item.{IsHeld};
 ghost use Rattle.stored_forms.specs.Places.{low_digits};
@@ -10,8 +10,6 @@ use crate::item::is_held;
 
 /// How many bytes an item of so many digits has.
 pub fn binary_size(digits: u8) -> u32
-    requires some_digits { 1 ≤ digits }
-    requires digits { digits ≤ 18 }
     ensures { result ≡ binary_size digits }
 {
     match digits {
@@ -26,7 +24,17 @@ fn count_of(size: usize) -> u128
     requires { size ≤ 8 }
     ensures { result ≡ 256 ^ size }
 {
-    256u128.pow(size as u32)
+    match size {
+        0 => 1,
+        1 => 0x100,
+        2 => 0x1_0000,
+        3 => 0x100_0000,
+        4 => 0x1_0000_0000,
+        5 => 0x100_0000_0000,
+        6 => 0x1_0000_0000_0000,
+        7 => 0x100_0000_0000_0000,
+        _ => 0x1_0000_0000_0000_0000,
+    }
 }
 
 fn twos_complement(size: usize, value: i128) -> u64
@@ -96,7 +104,8 @@ pub fn binary_read(bytes: &[u8], digits: u8, signed: bool) -> Option<i128>
     requires some_digits { 1 ≤ digits }
     requires digits { digits ≤ 18 }
     requires size { length bytes.now ≡ binary_size digits }
-    ensures { result ≡ binary_value bytes.now digits signed }
+    ensures value { result ≡ binary_value bytes.now digits signed }
+    ensures short { IfSome result (λ value. unsigned_abs value < 10 ^ digits) }
 {
     let value = signed_number(bytes.len(), number_of(bytes));
     if is_held(value, digits, signed) {

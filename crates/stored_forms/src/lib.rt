@@ -15,4 +15,5 @@ mod packed;
 mod tests;
 
 pub use binary::{binary_read, binary_size, binary_write};
+pub use item::count_of_digits;
 pub use packed::{packed_read, packed_size, packed_write};

@@ -1,6 +1,6 @@
 //! Packed items: a half byte for each digit, and one for the sign.
 
-ghost use Rattle.std.specs.Prelude.{◌≡◌, ◌^◌, ◌/◌, ◌%◌, ◌<◌, ◌≤◌, IfSome, IsFalse, IsTrue, length, map};
+ghost use Rattle.std.specs.Prelude.{◌≡◌, ◌^◌, ◌/◌, ◌%◌, ◌<◌, ◌≤◌, IfSome, IsFalse, IsTrue, length, map, unsigned_abs};
 ghost use Rattle.stored_forms.specs.Item.{IsHeld};
 ghost use Rattle.stored_forms.specs.Places.{low_digits};
 ghost use Rattle.stored_forms.specs.Packed.{decimal_number, halves_of, packed_bytes, packed_size, packed_value, pair_byte, sign_half, value_by_sign};
@@ -17,8 +17,6 @@ const UNSIGNED: u8 = 0xF;
 
 /// How many bytes an item of so many digits has.
 pub fn packed_size(digits: u8) -> u32
-    requires some_digits { 1 ≤ digits }
-    requires digits { digits ≤ 18 }
     ensures { result ≡ packed_size digits }
 {
     digits as u32 / 2 + 1
@@ -114,7 +112,8 @@ pub fn packed_read(bytes: &[u8], digits: u8, signed: bool) -> Option<i128>
     requires some_digits { 1 ≤ digits }
     requires digits { digits ≤ 18 }
     requires size { length bytes.now ≡ packed_size digits }
-    ensures { result ≡ packed_value bytes.now digits signed }
+    ensures value { result ≡ packed_value bytes.now digits signed }
+    ensures short { IfSome result (λ value. unsigned_abs value < 10 ^ digits) }
 {
     let last = bytes[bytes.len() - 1];
     if !is_filled(digits, bytes[0]) || last / HALF > 9 {

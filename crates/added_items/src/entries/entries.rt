@@ -10,7 +10,7 @@ ghost use Rattle.added_items.specs.item_table.Naming.{digits_of, is_signed, seen
 use crate::item_table::AddedItem;
 use branch_tree::Added;
 use cob_base::{Items, NoMemory};
-use cob_tree::{Digits, Entry, Number, Operand, Picture, Sign};
+use cob_tree::{Digits, Entry, Number, Operand, Picture, Sign, Usage};
 use cob_words::numbered::numbered_text;
 use std::alloc::Global;
 
@@ -66,6 +66,7 @@ fn entry_of(alloc: Global, item: &AddedItem) -> Result<Entry, NoMemory>
                 part: 0,
             }),
             sign: Sign::Within,
+            usage: Usage::Display,
             occurs: None,
             value: Some(value),
             ranges: Items::new(alloc),

@@ -58,3 +58,6 @@ done_listed result listed program left left_now old new table is done = subst (�
 pub wanted_after : (listed program : List FileEntry) (left left_now : ℕ) (old new : List Seen) (table : List FileRow) → listed ≡ program → LeftOf (is_used (addresses_of listed)) [] left left_now old new → BrokeOver faults.NoMemory program left left_now old new table
 wanted_after listed program left left_now old new table is one =
     (subst (λ (l : List FileEntry). LeftOf (is_used (addresses_of l)) [] left left_now old new) is one, nothing_shut (addresses_of program) table)
+
+-- where nothing was asked of a device, or an operation on a file of the program was
+pub ruleset nothing_asked = (done_listed, none_asked)

@@ -23,6 +23,7 @@ use Rattle.cob_act.specs.declared.files.fault.FileFault.{FileFault}
 use Rattle.cob_act.specs.declared.files.fault.FileFault.TheVariants as faults
 use Rattle.cob_act.specs.files.Ends.{answered}
 use Rattle.cob_act.specs.files.Over.{BrokeIn, IsOver, Stays, Tries}
+use Rattle.cob_act.proofs.files_lemmas.BenchLemmas.{done_listed, none_asked}
 
 -- ---- a file of the program
 
@@ -162,3 +163,6 @@ pub stays_listed : {A : Type 0} (result : Result A FileFault) (listed program : 
     (IsOver listed devices table world → Stays result listed world left new now) → IsOver program devices table world → Stays result program world left new now
 stays_listed result listed program devices table world left new now is stays over =
     subst (λ (l : List FileEntry). IsOver l devices table world → Stays result l world left new now) is stays over
+
+-- one operation on a file of the program
+pub ruleset one_operation = (done_listed, none_asked, stays_listed)

@@ -21,7 +21,7 @@ use file_model::operations::Watched;
 use file_model::{Bench, Device, FileTable};
 
 // OPEN of one file.
-#[tactic(auto, using(crate::proofs::files_lemmas::BenchLemmas::done_listed, crate::proofs::files_lemmas::BenchLemmas::none_asked, crate::proofs::files_lemmas::DeskLemmas::stays_listed))]
+#[tactic(auto, using(crate::proofs::files_lemmas::DeskLemmas::one_operation))]
 fn opened(
     program: &Program,
     areas: &Areas,
@@ -103,7 +103,7 @@ pub fn all_opened(
 }
 
 // CLOSE of one file.
-#[tactic(auto, using(crate::proofs::files_lemmas::BenchLemmas::done_listed, crate::proofs::files_lemmas::BenchLemmas::none_asked, crate::proofs::files_lemmas::DeskLemmas::stays_listed))]
+#[tactic(auto, using(crate::proofs::files_lemmas::DeskLemmas::one_operation))]
 fn shut(
     program: &Program,
     areas: &Areas,
@@ -289,7 +289,7 @@ fn is_cared(at_end: bool, status: u8) -> bool
 }
 
 /// Does READ. It chooses arm 1 at the end, and 2 where a record came.
-#[tactic(auto, using(crate::proofs::files_lemmas::BenchLemmas::done_listed, crate::proofs::files_lemmas::BenchLemmas::none_asked))]
+#[tactic(auto, using(crate::proofs::files_lemmas::BenchLemmas::nothing_asked))]
 pub fn read_one(
     program: &Program,
     areas: &Areas,
@@ -350,6 +350,14 @@ pub fn read_one(
     }
 }
 
+/// WRITE or REWRITE, as its program has it.
+#[derive(Clone, Copy)]
+pub struct WriteRequest<'a> {
+    /// The entry of the record.
+    pub entry: u32,
+    pub from: Option<&'a Operand>,
+}
+
 // FROM; then `scratch` gets the record that is to be written.
 fn put_out(
     program: &Program,
@@ -376,7 +384,7 @@ fn put_out(
 }
 
 /// Does WRITE of a record, after its FROM.
-#[tactic(auto, using(crate::proofs::files_lemmas::BenchLemmas::done_listed, crate::proofs::files_lemmas::BenchLemmas::none_asked))]
+#[tactic(auto, using(crate::proofs::files_lemmas::BenchLemmas::nothing_asked))]
 pub fn written(
     program: &Program,
     areas: &Areas,
@@ -384,8 +392,7 @@ pub fn written(
     scratch: &mut Vec<u8>,
     bench: &mut Bench,
     table: &mut FileTable,
-    entry: u32,
-    from: Option<&Operand>,
+    writing: WriteRequest,
 ) -> Result<ActOutcome, FileFault>
     requires within { bench.old.left ≤ vec_len bench.old.devices }
     ensures bench { DoneOver result program.now.files bench.old.left bench.new.left
@@ -395,8 +402,8 @@ pub fn written(
         (take bench.old.left (map ⟦<Box<dyn Device> as Watched>⟧.seen bench.old.devices.items))
         table.old.rows world →
         Did program.now.files result world
-        (written (declared_with program.now areas.now) store.old world entry
-        (option_copied from.entry))
+        (written (declared_with program.now areas.now) store.old world writing.entry.entry
+        (option_copied writing.entry.from))
         store.new
         (take bench.new.left (map ⟦<Box<dyn Device> as Watched>⟧.seen bench.new.devices.items))
         table.new.rows }
@@ -404,20 +411,20 @@ pub fn written(
         (take bench.old.left (map ⟦<Box<dyn Device> as Watched>⟧.seen bench.old.devices.items))
         table.old.rows world →
         BreaksIn result program.now.files world
-        (written (declared_with program.now areas.now) store.old world entry
-        (option_copied from.entry))
+        (written (declared_with program.now areas.now) store.old world writing.entry.entry
+        (option_copied writing.entry.from))
         bench.new.left
         (map ⟦<Box<dyn Device> as Watched>⟧.seen bench.new.devices.items) table.new.rows }
 
     // the store is as it was, or as FROM left it
     ensures kept { IfErr result (λ fault. MovedFrom
-        (from_by (declared_with program.now areas.now) entry store.old (option_copied from.entry))
-        store.old store.new) }
+        (from_by (declared_with program.now areas.now) writing.entry.entry store.old
+        (option_copied writing.entry.from)) store.old store.new) }
 {
-    match put_out(program, areas, store, scratch, entry, from)? {
+    match put_out(program, areas, store, scratch, writing.entry, writing.from)? {
         Err(abend) => Ok(ActOutcome::Abended(abend)),
         Ok(item) => {
-            let file = file_of(program, areas, entry);
+            let file = file_of(program, areas, writing.entry);
             let files = program.files.as_slice();
             let status = write(bench, table, files, file, scratch.as_slice())?;
             Ok(settled(store, item, false, status))
@@ -426,7 +433,7 @@ pub fn written(
 }
 
 /// Does REWRITE of a record, after its FROM.
-#[tactic(auto, using(crate::proofs::files_lemmas::BenchLemmas::done_listed, crate::proofs::files_lemmas::BenchLemmas::none_asked))]
+#[tactic(auto, using(crate::proofs::files_lemmas::BenchLemmas::nothing_asked))]
 pub fn rewritten(
     program: &Program,
     areas: &Areas,
@@ -434,8 +441,7 @@ pub fn rewritten(
     scratch: &mut Vec<u8>,
     bench: &mut Bench,
     table: &mut FileTable,
-    entry: u32,
-    from: Option<&Operand>,
+    writing: WriteRequest,
 ) -> Result<ActOutcome, FileFault>
     requires within { bench.old.left ≤ vec_len bench.old.devices }
     ensures bench { DoneOver result program.now.files bench.old.left bench.new.left
@@ -445,8 +451,8 @@ pub fn rewritten(
         (take bench.old.left (map ⟦<Box<dyn Device> as Watched>⟧.seen bench.old.devices.items))
         table.old.rows world →
         Did program.now.files result world
-        (rewritten (declared_with program.now areas.now) store.old world entry
-        (option_copied from.entry))
+        (rewritten (declared_with program.now areas.now) store.old world writing.entry.entry
+        (option_copied writing.entry.from))
         store.new
         (take bench.new.left (map ⟦<Box<dyn Device> as Watched>⟧.seen bench.new.devices.items))
         table.new.rows }
@@ -454,20 +460,20 @@ pub fn rewritten(
         (take bench.old.left (map ⟦<Box<dyn Device> as Watched>⟧.seen bench.old.devices.items))
         table.old.rows world →
         BreaksIn result program.now.files world
-        (rewritten (declared_with program.now areas.now) store.old world entry
-        (option_copied from.entry))
+        (rewritten (declared_with program.now areas.now) store.old world writing.entry.entry
+        (option_copied writing.entry.from))
         bench.new.left
         (map ⟦<Box<dyn Device> as Watched>⟧.seen bench.new.devices.items) table.new.rows }
 
     // the store is as it was, or as FROM left it
     ensures kept { IfErr result (λ fault. MovedFrom
-        (from_by (declared_with program.now areas.now) entry store.old (option_copied from.entry))
-        store.old store.new) }
+        (from_by (declared_with program.now areas.now) writing.entry.entry store.old
+        (option_copied writing.entry.from)) store.old store.new) }
 {
-    match put_out(program, areas, store, scratch, entry, from)? {
+    match put_out(program, areas, store, scratch, writing.entry, writing.from)? {
         Err(abend) => Ok(ActOutcome::Abended(abend)),
         Ok(item) => {
-            let file = file_of(program, areas, entry);
+            let file = file_of(program, areas, writing.entry);
             let files = program.files.as_slice();
             let status = rewrite(bench, table, files, file, scratch.as_slice())?;
             Ok(settled(store, item, false, status))

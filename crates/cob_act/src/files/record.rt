@@ -98,6 +98,7 @@ fn item_place(alloc: Global, item: u32) -> Place
 }
 
 /// INTO: a MOVE from the file's first record.
+#[tactic(auto, using(crate::proofs::files_lemmas::RecordLemmas::moves_from))]
 pub fn moved_into(
     program: &Program,
     areas: &Areas,
@@ -129,6 +130,7 @@ pub fn moved_into(
 }
 
 /// FROM: a MOVE to the record.
+#[tactic(auto, using(crate::proofs::files_lemmas::RecordLemmas::moves_to))]
 pub fn moved_out(
     program: &Program,
     areas: &Areas,

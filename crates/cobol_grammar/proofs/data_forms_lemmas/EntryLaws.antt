@@ -42,11 +42,25 @@ picture_clause = do
   found ← picture
   pure
 
+pub binary : Law true clauses.binary
+unfolding clauses.binary
+binary = where_next (key (codes "BINARY")) (either (codes "COMP") (codes "COMPUTATIONAL"))
+
+pub packed : Law true clauses.packed
+unfolding clauses.packed
+packed = where_next (key (codes "PACKED-DECIMAL")) (either (codes "COMP-3") (codes "COMPUTATIONAL-3"))
+
+pub usage : Law true clauses.usage
+unfolding clauses.usage
+usage =
+    where_next (binary >>= (λ at. pure))
+    (where_next (packed >>= (λ at. pure)) (key (codes "DISPLAY") >>= (λ at. pure)))
+
 usage_clause : Law true clauses.usage_clause
-unfolding clauses.usage_clause clauses.usage_behind
+unfolding clauses.usage_clause clauses.usage_behind clauses.usage_alone
 usage_clause =
-    where_next (key (codes "USAGE") >>= (λ at. maybe (codes "IS") >> key (codes "DISPLAY") >> pure))
-    (key (codes "DISPLAY") >>= (λ at. pure))
+    where_next (key (codes "USAGE") >>= (λ at. maybe (codes "IS") >> (usage >>= (λ found. pure))))
+    (usage >>= (λ found. pure))
 
 pub side : Law true clauses.side
 unfolding clauses.side

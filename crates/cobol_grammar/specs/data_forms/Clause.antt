@@ -1,6 +1,9 @@
--- Clauses of a data description entry (ISO 1989:1985, the data description entry). The USAGE clause
--- has DISPLAY alone; other usages come in here.
+-- Clauses of a data description entry (ISO 1989:1985, the data description entry). Of the usages,
+-- COMP and COMPUTATIONAL are BINARY, as the standard leaves it open, and PACKED-DECIMAL, COMP-3 and
+-- COMPUTATIONAL-3 are the packed form.
 use Rattle.std.specs.Prelude.{Bool, true, false, ◌||◌, codes, List, Option, Some, None}
+use Rattle.cob_tree.specs.declared.picture.Usage.{Usage}
+use Rattle.cob_tree.specs.declared.picture.Usage.TheVariants as usages
 use Rattle.cobol_lex.specs.declared.token.TokenKind.{TokenKind}
 use Rattle.cobol_grammar.specs.declared.data_forms.draft.Clause.{Clause}
 use Rattle.cobol_grammar.specs.declared.data_forms.draft.Clause.TheVariants as clauses
@@ -36,21 +39,59 @@ picture_clause = do
   found ← picture
   pure (clauses.Picture at found.0 found.1)
 
--- ---- [USAGE [IS]] DISPLAY
+-- ---- [USAGE [IS]] (DISPLAY | BINARY | COMP | COMPUTATIONAL | PACKED-DECIMAL | COMP-3
+-- ---- | COMPUTATIONAL-3)
 
--- USAGE or DISPLAY
+-- BINARY, COMP or COMPUTATIONAL
+abbrev pub is_binary : TokenKind → Bool
+is_binary kind =
+    is_key (codes "BINARY") kind || is_either (codes "COMP") (codes "COMPUTATIONAL") kind
+
+-- PACKED-DECIMAL, COMP-3 or COMPUTATIONAL-3
+abbrev pub is_packed : TokenKind → Bool
+is_packed kind =
+    is_key (codes "PACKED-DECIMAL") kind
+    || is_either (codes "COMP-3") (codes "COMPUTATIONAL-3") kind
+
+-- USAGE, or the word of a usage
 abbrev pub is_usage : TokenKind → Bool
-is_usage kind = is_either (codes "USAGE") (codes "DISPLAY") kind
+is_usage kind =
+    is_either (codes "USAGE") (codes "DISPLAY") kind || (is_binary kind || is_packed kind)
 
--- the USAGE clause after its first word: [IS] DISPLAY
+-- BINARY, COMP or COMPUTATIONAL, with where it is
+unfoldable pub binary : Form Position
+binary =
+    where_next (is_key (codes "BINARY")) (key (codes "BINARY"))
+    (either (codes "COMP") (codes "COMPUTATIONAL"))
+
+-- PACKED-DECIMAL, COMP-3 or COMPUTATIONAL-3, with where it is
+unfoldable pub packed : Form Position
+packed =
+    where_next (is_key (codes "PACKED-DECIMAL")) (key (codes "PACKED-DECIMAL"))
+    (either (codes "COMP-3") (codes "COMPUTATIONAL-3"))
+
+-- the word of a usage: which usage it is, and where the word is
+unfoldable pub usage : Form (Usage × Position)
+usage =
+    where_next is_binary (binary >>= (λ at. pure (usages.Binary, at)))
+    (where_next is_packed (packed >>= (λ at. pure (usages.Packed, at)))
+    (key (codes "DISPLAY") >>= (λ at. pure (usages.Display, at))))
+
+-- the USAGE clause after its first word: [IS] usage
 unfoldable pub usage_behind : Position → Form Clause
-usage_behind at = maybe (codes "IS") >> key (codes "DISPLAY") >> pure (clauses.Usage at)
+usage_behind at = do
+  maybe (codes "IS")
+  found ← usage
+  pure (clauses.Usage at found.0)
 
--- the USAGE clause: [USAGE [IS]] DISPLAY
+-- the USAGE clause without that word: usage
+unfoldable pub usage_alone : Form Clause
+usage_alone = usage >>= (λ found. pure (clauses.Usage found.1 found.0))
+
+-- the USAGE clause: [USAGE [IS]] usage
 unfoldable pub usage_clause : Form Clause
 usage_clause =
-    where_next (is_key (codes "USAGE")) (key (codes "USAGE") >>= usage_behind)
-    (key (codes "DISPLAY") >>= (λ at. pure (clauses.Usage at)))
+    where_next (is_key (codes "USAGE")) (key (codes "USAGE") >>= usage_behind) usage_alone
 
 -- ---- [SIGN [IS]] (LEADING | TRAILING) [SEPARATE [CHARACTER]]
 

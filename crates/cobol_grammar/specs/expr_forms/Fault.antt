@@ -38,6 +38,15 @@ number_fault_at position _ = usage position
 unfoldable pub number_fault : Side → Option Note
 number_fault side = number_fault_at side.leaf side.kind
 
+-- what is neither a number nor an edited item is a usage fault
+abbrev pub result_fault_at : Position → ValueKind → Option Note
+result_fault_at position kinds.Edited = None
+result_fault_at position kind = number_fault_at position kind
+
+-- the fault of a side after GIVING or of COMPUTE that can't take a result
+unfoldable pub result_fault : Side → Option Note
+result_fault side = result_fault_at side.leaf side.kind
+
 -- what isn't a number without decimals is a usage fault
 unfoldable pub whole_fault_at : Position → ValueKind → Option Note
 whole_fault_at position (kinds.Number whole) = if whole then None else usage position
@@ -74,8 +83,9 @@ abbrev pub inexact_fault : ExprContent → ValueKind → Position → Option Not
 inexact_fault makes.Joined kind position = usage position
 inexact_fault _ kind position = whole_fault_at position kind
 
--- the kind as which a value is compared: a group as text
+-- the kind as which a value is compared: an edited item and a group as text
 abbrev pub compared_as : ValueKind → ValueKind
+compared_as kinds.Edited = kinds.Text
 compared_as kinds.Group = kinds.Text
 compared_as kind = kind
 
@@ -110,6 +120,7 @@ item_of _ = 0
 abbrev pub item_kind : ItemKind → ValueKind
 item_kind (items.Number whole) = kinds.Number whole
 item_kind items.Text = kinds.Text
+item_kind items.Edited = kinds.Edited
 item_kind items.Group = kinds.Group
 item_kind items.Condition = kinds.Condition
 

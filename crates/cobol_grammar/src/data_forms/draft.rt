@@ -1,7 +1,7 @@
 //! What a text says about its files and data, before the rules on them are checked.
 
 use cob_base::{Items, Text, Word};
-use cob_tree::{Operand, Place};
+use cob_tree::{Operand, Place, Usage};
 use parser_combinators::Position;
 
 /// THRU, and the value after it.
@@ -34,9 +34,9 @@ pub enum Clause {
         text: Text,
         text_at: Position,
     },
-    /// USAGE DISPLAY.
     Usage {
         at: Position,
+        usage: Usage,
     },
     Sign {
         at: Position,

@@ -14,6 +14,8 @@ pub enum ValueKind {
     Number(bool),
     /// An elementary item of characters, a literal in quotation marks, or what a window shows.
     Text,
+    /// An item with an edited picture, without a window.
+    Edited,
     /// An item with items below it, without a window.
     Group,
     /// A figurative constant other than ZERO.

@@ -6,6 +6,8 @@ use Rattle.cob_tree.specs.declared.entry.Span.{Span}
 use Rattle.cob_tree.specs.declared.picture.Picture.{Picture}
 use Rattle.cob_tree.specs.declared.picture.Sign.{Sign}
 use Rattle.cob_tree.specs.declared.picture.Sign.TheVariants.{Within, SeparateLeading, SeparateTrailing}
+use Rattle.cob_tree.specs.declared.picture.Usage.{Usage}
+use Rattle.cob_tree.specs.declared.picture.Usage.TheVariants.{Display, Binary, Packed}
 use Rattle.cob_tree.specs.declared.place.Operand.{Operand}
 use Rattle.cob_tree.specs.declared.program.Program.{Program}
 use Rattle.cobol_lex.specs.declared.token.TokenKind.TheVariants as kind
@@ -36,6 +38,12 @@ abbrev pub picture_tokens : Option Picture → Tokens
 picture_tokens None = []
 picture_tokens (Some picture) =
     kind.Word (codes "PIC") ∷ kind.Picture (picture_text picture) ∷ []
+
+-- the USAGE clause, which is its word alone; DISPLAY has none
+abbrev pub usage_tokens : Usage → Tokens
+usage_tokens Display = []
+usage_tokens Binary = kind.Word (codes "BINARY") ∷ []
+usage_tokens Packed = kind.Word (codes "PACKED-DECIMAL") ∷ []
 
 -- the SIGN clause; a sign within the last digit has none
 abbrev pub sign_tokens : Sign → Tokens
@@ -78,8 +86,8 @@ ranges_tokens program (span ∷ spans) =
 abbrev pub clauses_tokens : Program → Entry → Tokens
 clauses_tokens program entry =
     redefines_tokens program entry.redefines ++ picture_tokens entry.picture
-    ++ sign_tokens entry.sign ++ occurs_tokens entry.occurs ++ value_tokens program entry.value
-    ++ ranges_tokens program entry.ranges
+    ++ usage_tokens entry.usage ++ sign_tokens entry.sign ++ occurs_tokens entry.occurs
+    ++ value_tokens program entry.value ++ ranges_tokens program entry.ranges
 
 -- an entry
 abbrev pub entry_unit : Program → Entry → PrintUnit

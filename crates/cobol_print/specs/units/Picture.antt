@@ -3,7 +3,8 @@ use Rattle.std.specs.Prelude.{ℕ, ◌==◌, List, [], ◌∷◌, ◌++◌, code
 use Rattle.std.specs.Str.{byte}
 use Rattle.cob_base.specs.Bytes.{left_parenthesis, right_parenthesis}
 use Rattle.cob_tree.specs.declared.picture.Picture.{Picture}
-use Rattle.cob_tree.specs.declared.picture.Picture.TheVariants.{Number, Letters, Any}
+use Rattle.cob_tree.specs.declared.picture.Picture.TheVariants.{Number, Letters, Any, Edited}
+use Rattle.edit_fields.specs.Laws.{printed}
 
 -- a run of a symbol, as `9` or `9(4)`
 abbrev pub run_text : (symbol count : ℕ) → List ℕ
@@ -25,3 +26,4 @@ picture_text (Number signed whole part) =
     (if signed then codes "S" else []) ++ some_run whole ++ part_text part
 picture_text (Letters count) = run_text (byte "A") count
 picture_text (Any count) = run_text (byte "X") count
+picture_text (Edited mask) = printed mask

@@ -5,12 +5,12 @@ ghost use Rattle.cob_base.specs.Answers.{Makes};
 ghost use Rattle.cobol_lex.specs.declared.token.TokenKind.TheVariants as kind;
 ghost use Rattle.unparser.specs.Place.{entry_name, item_name};
 ghost use Rattle.unparser.specs.Token.{is_reserved_shape};
-ghost use Rattle.cobol_print.specs.units.Entry.{level_text, level_column, redefines_tokens, picture_tokens, sign_tokens, occurs_tokens, value_tokens, span_tokens, spans_tokens, ranges_tokens, clauses_tokens, entry_unit};
+ghost use Rattle.cobol_print.specs.units.Entry.{level_text, level_column, redefines_tokens, picture_tokens, usage_tokens, sign_tokens, occurs_tokens, value_tokens, span_tokens, spans_tokens, ranges_tokens, clauses_tokens, entry_unit};
 
 use crate::units::picture::{add_decimal, picture_text};
 use crate::units::unit::Units;
 use cob_base::{NoMemory, Text};
-use cob_tree::{Entry, Operand, Picture, Program, Sign, Span};
+use cob_tree::{Entry, Operand, Picture, Program, Sign, Span, Usage};
 use cobol_lex::TokenKind;
 use std::alloc::Global;
 use unparser::Tokens;
@@ -80,6 +80,16 @@ fn add_picture(alloc: Global, tokens: &mut Tokens, picture: Option<Picture>) -> 
     tokens.word(b"PIC")?;
     let text = picture_text(alloc, picture)?;
     tokens.push(TokenKind::Picture(text))
+}
+
+fn add_usage(tokens: &mut Tokens, usage: Usage) -> Result<(), NoMemory>
+    ensures { OnOk result (tokens.new ≡ tokens.old ++ usage_tokens usage) }
+{
+    match usage {
+        Usage::Display => Ok(()),
+        Usage::Binary => tokens.word(b"BINARY"),
+        Usage::Packed => tokens.word(b"PACKED-DECIMAL"),
+    }
 }
 
 /// Adds three words of the language.
@@ -174,6 +184,7 @@ fn add_clauses(
 {
     add_redefines(tokens, program, entry.redefines)?;
     add_picture(alloc, tokens, entry.picture)?;
+    add_usage(tokens, entry.usage)?;
     add_sign(tokens, entry.sign)?;
     add_occurs(alloc, tokens, entry.occurs)?;
     add_value(tokens, program, &entry.value)?;

@@ -1,7 +1,8 @@
 //! Pictures and numbers as text.
 
-ghost use Rattle.std.specs.Prelude.{◌≡◌, ◌++◌, OnOk, decimal};
+ghost use Rattle.std.specs.Prelude.{◌≡◌, ◌++◌, ◌≤◌, OnOk, decimal, length};
 ghost use Rattle.cob_base.specs.Answers.{Makes};
+ghost use Rattle.edit_fields.specs.Laws.{printed};
 ghost use Rattle.cobol_print.specs.units.Picture.{run_text, some_run, part_text, picture_text};
 
 use cob_base::{NoMemory, Text};
@@ -49,6 +50,28 @@ fn add_part(alloc: Global, text: &mut Text, part: u8) -> Result<(), NoMemory>
     add_run(alloc, text, b'9', u32::from(part))
 }
 
+/// Adds the symbols of a mask, each run of one with its count.
+fn add_mask(alloc: Global, text: &mut Text, mask: &[u8]) -> Result<(), NoMemory>
+    requires { length mask.now ≤ 160 }
+    ensures { OnOk result (text.new ≡ text.old ++ printed mask.now) }
+{
+    let Some((first, rest)) = mask.split_first() else {
+        return Ok(());
+    };
+    let mut symbol = *first;
+    let mut run = 1;
+    for byte in rest {
+        if symbol == *byte {
+            run += 1;
+            continue;
+        }
+        add_run(alloc, text, symbol, run)?;
+        symbol = *byte;
+        run = 1;
+    }
+    add_run(alloc, text, symbol, run)
+}
+
 /// The text of a picture, with counts.
 pub fn picture_text(alloc: Global, picture: Picture) -> Result<Text, NoMemory>
     ensures { Makes (picture_text picture) result }
@@ -68,6 +91,7 @@ pub fn picture_text(alloc: Global, picture: Picture) -> Result<Text, NoMemory>
         }
         Picture::Letters(count) => add_run(alloc, &mut text, b'A', count)?,
         Picture::Any(count) => add_run(alloc, &mut text, b'X', count)?,
+        Picture::Edited(mask) => add_mask(alloc, &mut text, mask.as_slice())?,
     }
     Ok(text)
 }

@@ -12,7 +12,8 @@ use cobol_grammar::expr_forms::Side;
 use cobol_grammar::part_readers::Parts;
 use cond_parse::whole_cond;
 use expr_parse::actions::{
-    at_operand, condition_fault, digits_side, expr_of, number_fault, value_fault, whole_fault,
+    at_operand, condition_fault, digits_side, expr_of, number_fault, result_fault, value_fault,
+    whole_fault,
 };
 use expr_parse::{data_operand, data_reference, data_reference_behind, whole_expr};
 use parser_combinators::words::sees_name;
@@ -139,7 +140,7 @@ impl<'a> Parts for PartReader<'a> {
     }
 
     fn result_fault(&self, side: &Side) -> Option<Note> {
-        number_fault(side)
+        result_fault(side)
     }
 
     fn move_fault(&self, from: &Side, to: &Side) -> Option<Note> {

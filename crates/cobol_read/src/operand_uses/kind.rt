@@ -13,6 +13,7 @@ fn picture_kind(picture: Option<Picture>) -> ItemKind
 {
     match picture {
         Some(Picture::Number { part, .. }) => ItemKind::Number { whole: part == 0 },
+        Some(Picture::Edited(_)) => ItemKind::Edited,
         _ => ItemKind::Text,
     }
 }
@@ -37,6 +38,7 @@ pub fn item_kind(kind: ItemKind) -> ValueKind
     match kind {
         ItemKind::Number { whole } => ValueKind::Number(whole),
         ItemKind::Text => ValueKind::Text,
+        ItemKind::Edited => ValueKind::Edited,
         ItemKind::Group => ValueKind::Group,
         ItemKind::Condition => ValueKind::Condition,
     }

@@ -94,8 +94,8 @@ fn number_moved(make: ExprContent, whole: bool, to: ValueKind, position: Positio
     }
 }
 
-fn figure_moved(to: ValueKind, position: Position) -> Option<Note>
-    ensures { result ≡ uses.figure_moved to position }
+fn to_number_fault(to: ValueKind, position: Position) -> Option<Note>
+    ensures { result ≡ uses.to_number_fault to position }
 {
     match to {
         ValueKind::Number(_) => usage(position),
@@ -113,7 +113,7 @@ fn moved_fault(
 {
     match from {
         ValueKind::Number(whole) => number_moved(make, whole, to, position),
-        ValueKind::Figure => figure_moved(to, position),
+        ValueKind::Edited | ValueKind::Figure => to_number_fault(to, position),
         _ => None,
     }
 }
@@ -159,7 +159,7 @@ fn compared_as(kind: ValueKind) -> ValueKind
     ensures { result ≡ faults.compared_as kind }
 {
     match kind {
-        ValueKind::Group => ValueKind::Text,
+        ValueKind::Edited | ValueKind::Group => ValueKind::Text,
         _ => kind,
     }
 }

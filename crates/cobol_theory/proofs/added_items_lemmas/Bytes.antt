@@ -50,7 +50,8 @@ module _ (store tail : Roots) where
       by_case false = refl
 
   pub number-same : (spot : Spot) (form : Form) → spot.root < length store → number_at (store ++ tail) spot form ≡ number_at store spot form
-  number-same spot (forms.Number signed whole part sign) h =
-      ap (λ bytes. and_then (number_of (number_in signed sign bytes) part) (λ number. Ok (Some number))) (spot-same spot h)
+  number-same spot (forms.Number signed whole part storage) h =
+      ap (λ bytes. and_then (number_of (number_in signed storage bytes) part) (λ number. Ok (Some number))) (spot-same spot h)
+  number-same spot forms.Edited h = refl
   number-same spot forms.Group h = refl
   number-same spot forms.Text h = refl

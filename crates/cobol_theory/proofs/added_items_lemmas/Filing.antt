@@ -7,7 +7,7 @@ use Rattle.std.proofs.lemmas.List.{length-append}
 use Rattle.cob_tree.specs.declared.file.FileEntry.{FileEntry}
 use Rattle.cob_tree.specs.declared.file.Opening.{Opening}
 use Rattle.cob_tree.specs.declared.place.Operand.{Operand}
-use Rattle.cob_tree.specs.declared.place.Place.{Place}
+use Rattle.cob_tree.specs.declared.place.Place.{Place, out-Place}
 use Rattle.cob_store.specs.declared.area.Area.{Area}
 use Rattle.cob_store.specs.declared.spot.Spot.{Spot}
 use Rattle.cob_store.specs.declared.spot.Reached.{Reached}
@@ -26,6 +26,7 @@ use Rattle.cobol_theory.proofs.added_items_lemmas.Bytes.{get-append, spot-same, 
 use Rattle.cobol_theory.proofs.added_items_lemmas.Places as places
 use Rattle.cobol_theory.proofs.added_items_lemmas.Places.{IsRooted}
 use Rattle.cobol_theory.proofs.added_items_lemmas.Sides as sides
+use Rattle.cobol_theory.proofs.added_items_lemmas.Sides.{item-below}
 use Rattle.cobol_theory.proofs.added_items_lemmas.Outcomes as outcomes
 use Rattle.cobol_theory.proofs.added_items_lemmas.Moves as moves
 use Rattle.cobol_theory.proofs.added_items_lemmas.Files as files
@@ -198,7 +199,7 @@ module _ (declared : Declared) (added : AddedItems) (tail : Roots) (whole : IsWh
       moves.sent_on-widens areas added.areas tail roots
       (place_sent (memory_of (areas ++ added.areas) (store ++ tail)) (not (is_group (form_of (areas ++ added.areas) place))) (item_reached (record_entry beside file)))
       (place_sent (memory_of areas store) (not (is_group (form_of areas place))) (item_reached (first file)))
-      (reached place) store long (lies-inside store long)
+      (out-Place place).item (item-below (length areas) place e) (reached place) store long (lies-inside store long)
       (ap (λ n. place_sent (memory_of (areas ++ added.areas) (store ++ tail)) (not (is_group (form_of (areas ++ added.areas) place))) (item_reached n)) (first-same file h)
       ∙ ap (λ group. place_sent (memory_of (areas ++ added.areas) (store ++ tail)) (not group) (item_reached (first file))) (group-same place e)
       ∙ sides.place_sent-same areas added.areas store tail (lies-inside store long) (not (is_group (form_of areas place))) (item_reached (first file)) (item-found (first file) h store long (lies-inside store long)))
@@ -268,7 +269,7 @@ module _ (declared : Declared) (added : AddedItems) (tail : Roots) (whole : IsWh
       moves.sent_on-widens areas added.areas tail roots
       (operand_sent (memory_of (areas ++ added.areas) (store ++ tail)) (not (is_group (item_form (areas ++ added.areas) entry))) operand)
       (operand_sent (memory_of areas store) (not (is_group (item_form areas entry))) operand)
-      (item_reached entry) store long (lies-inside store long)
+      entry h (item_reached entry) store long (lies-inside store long)
       (ap (λ area. operand_sent (memory_of (areas ++ added.areas) (store ++ tail)) (not (is_group (area_form false area))) operand) (get-append areas added.areas entry h)
       ∙ sides.operand_sent-same areas added.areas store tail (lies-inside store long) (not (is_group (item_form areas entry))) operand e)
       (item-found entry h)

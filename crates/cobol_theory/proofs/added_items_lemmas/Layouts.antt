@@ -55,25 +55,25 @@ with_outer own outer = record { sizes = own.sizes ++ outer.sizes; pieces = own.p
 sized-by-kept : (entry : Entry) (own outer : Sized) → 1 ≤ entry.level → Outermost outer.pieces → sized_by entry (with_outer own outer) ≡ with_outer (sized_by entry own) outer
 sized-by-kept entry own outer deep outermost = by_condition (is_condition entry)
   where
-    item : item_sized entry (size_by entry.picture entry.sign (inside entry.level 0 (own.pieces ++ outer.pieces))) (with_outer own outer)
-        ≡ with_outer (item_sized entry (size_by entry.picture entry.sign (inside entry.level 0 own.pieces)) own) outer
+    item : item_sized entry (size_by entry.picture entry.sign entry.usage (inside entry.level 0 (own.pieces ++ outer.pieces))) (with_outer own outer)
+        ≡ with_outer (item_sized entry (size_by entry.picture entry.sign entry.usage (inside entry.level 0 own.pieces)) own) outer
     item =
-        ap (λ bytes. item_sized entry (size_by entry.picture entry.sign bytes) (with_outer own outer)) (inside-kept entry.level 0 own.pieces outer.pieces deep outermost)
+        ap (λ bytes. item_sized entry (size_by entry.picture entry.sign entry.usage bytes) (with_outer own outer)) (inside-kept entry.level 0 own.pieces outer.pieces deep outermost)
         ∙ ap (λ rest. record {
-          sizes = size_by entry.picture entry.sign (inside entry.level 0 own.pieces) ∷ (own.sizes ++ outer.sizes);
-          pieces = record { depth = entry.level; bytes = added entry.redefines (times entry.occurs (size_by entry.picture entry.sign (inside entry.level 0 own.pieces))) } ∷ rest;
+          sizes = size_by entry.picture entry.sign entry.usage (inside entry.level 0 own.pieces) ∷ (own.sizes ++ outer.sizes);
+          pieces = record { depth = entry.level; bytes = added entry.redefines (times entry.occurs (size_by entry.picture entry.sign entry.usage (inside entry.level 0 own.pieces))) } ∷ rest;
         })
         (behind-kept entry.level own.pieces outer.pieces deep outermost)
 
     by_apart : (b : Bool) →
-        (if b then apart_sized (size_by entry.picture entry.sign 0) (with_outer own outer) else item_sized entry (size_by entry.picture entry.sign (inside entry.level 0 (own.pieces ++ outer.pieces))) (with_outer own outer))
-        ≡ with_outer (if b then apart_sized (size_by entry.picture entry.sign 0) own else item_sized entry (size_by entry.picture entry.sign (inside entry.level 0 own.pieces)) own) outer
+        (if b then apart_sized (size_by entry.picture entry.sign entry.usage 0) (with_outer own outer) else item_sized entry (size_by entry.picture entry.sign entry.usage (inside entry.level 0 (own.pieces ++ outer.pieces))) (with_outer own outer))
+        ≡ with_outer (if b then apart_sized (size_by entry.picture entry.sign entry.usage 0) own else item_sized entry (size_by entry.picture entry.sign entry.usage (inside entry.level 0 own.pieces)) own) outer
     by_apart true = refl
     by_apart false = item
 
     by_condition : (b : Bool) →
-        (if b then apart_sized 0 (with_outer own outer) else if is_apart entry then apart_sized (size_by entry.picture entry.sign 0) (with_outer own outer) else item_sized entry (size_by entry.picture entry.sign (inside entry.level 0 (own.pieces ++ outer.pieces))) (with_outer own outer))
-        ≡ with_outer (if b then apart_sized 0 own else if is_apart entry then apart_sized (size_by entry.picture entry.sign 0) own else item_sized entry (size_by entry.picture entry.sign (inside entry.level 0 own.pieces)) own) outer
+        (if b then apart_sized 0 (with_outer own outer) else if is_apart entry then apart_sized (size_by entry.picture entry.sign entry.usage 0) (with_outer own outer) else item_sized entry (size_by entry.picture entry.sign entry.usage (inside entry.level 0 (own.pieces ++ outer.pieces))) (with_outer own outer))
+        ≡ with_outer (if b then apart_sized 0 own else if is_apart entry then apart_sized (size_by entry.picture entry.sign entry.usage 0) own else item_sized entry (size_by entry.picture entry.sign entry.usage (inside entry.level 0 own.pieces)) own) outer
     by_condition true = refl
     by_condition false = by_apart (is_apart entry)
 
@@ -194,11 +194,11 @@ all-inside laid (entry ∷ entries) (size ∷ sizes) inside = all-inside (laid_b
 sized-long : (entry : Entry) (later : Sized) (count : ℕ) → length later.sizes ≡ count → length (sized_by entry later).sizes ≡ suc count
 sized-long entry later count h = by_condition (is_condition entry)
   where
-    by_apart : (b : Bool) → length (if b then apart_sized (size_by entry.picture entry.sign 0) later else item_sized entry (size_by entry.picture entry.sign (inside entry.level 0 later.pieces)) later).sizes ≡ suc count
+    by_apart : (b : Bool) → length (if b then apart_sized (size_by entry.picture entry.sign entry.usage 0) later else item_sized entry (size_by entry.picture entry.sign entry.usage (inside entry.level 0 later.pieces)) later).sizes ≡ suc count
     by_apart true = ap suc h
     by_apart false = ap suc h
 
-    by_condition : (b : Bool) → length (if b then apart_sized 0 later else if is_apart entry then apart_sized (size_by entry.picture entry.sign 0) later else item_sized entry (size_by entry.picture entry.sign (inside entry.level 0 later.pieces)) later).sizes ≡ suc count
+    by_condition : (b : Bool) → length (if b then apart_sized 0 later else if is_apart entry then apart_sized (size_by entry.picture entry.sign entry.usage 0) later else item_sized entry (size_by entry.picture entry.sign entry.usage (inside entry.level 0 later.pieces)) later).sizes ≡ suc count
     by_condition true = ap suc h
     by_condition false = by_apart (is_apart entry)
 
@@ -340,11 +340,11 @@ alone-of entry e =
 -- where such an entry lies
 alone-sized : (entry : Entry) → Alone entry → (later : Sized) → sized_by entry later ≡ item_sized entry (size_alone entry) later
 alone-sized entry alone later =
-    ap (λ level. if level == 88 then apart_sized 0 later else if level == 77 then apart_sized (size_by entry.picture entry.sign 0) later
-    else item_sized entry (size_by entry.picture entry.sign (inside level 0 later.pieces)) later) alone.level
+    ap (λ level. if level == 88 then apart_sized 0 later else if level == 77 then apart_sized (size_by entry.picture entry.sign entry.usage 0) later
+    else item_sized entry (size_by entry.picture entry.sign entry.usage (inside level 0 later.pieces)) later) alone.level
     ∙ ap (λ size. item_sized entry size later) (whatever entry.picture alone.picture)
   where
-    whatever : (picture : Option Picture) → is_some picture ≡ true → size_by picture entry.sign (inside 1 0 later.pieces) ≡ size_by picture entry.sign 0
+    whatever : (picture : Option Picture) → is_some picture ≡ true → size_by picture entry.sign entry.usage (inside 1 0 later.pieces) ≡ size_by picture entry.sign entry.usage 0
     whatever None h = absurd (cc)
     whatever (Some picture) h = refl
 

@@ -16,7 +16,7 @@ use Rattle.cob_store.specs.Store.{Roots, spot_bytes}
 use Rattle.cob_store.specs.Starting.{figure_byte}
 use Rattle.cob_store.specs.Place.{Memory, OfMemory, reached, expr_value}
 use Rattle.meanings.specs.statements.Side.{Side, Amount, Literal, Bytes, valued, item_side, place_side, figure_side, operand_side, expr_side}
-use Rattle.meanings.specs.statements.Display.{operand_shown, shown_on, displayed}
+use Rattle.meanings.specs.statements.Display.{place_shown, operand_shown, shown_on, displayed}
 use Rattle.meanings.specs.statements.Text.{printed_number}
 use Rattle.meanings.specs.statements.Moving.{Sender, Written, Spelled, Figured, sent, place_sent, operand_sent}
 use Rattle.cobol_theory.specs.added_items.Within as within
@@ -113,7 +113,7 @@ module _ (areas more : List Area) (store tail : Roots) (inside : AreInside areas
 
   abbrev shown_at : Memory → Operand-F Expr Operand Place Sub Window → Answer (List ℕ)
   shown_at memory y = elim y [
-    | Operand-F.Place place ↦ and_then (reached place memory) (λ place. Ok (spot_bytes memory.store place.spot))
+    | Operand-F.Place place ↦ and_then (reached place memory) (λ place. place_shown place.form (spot_bytes memory.store place.spot))
     | Operand-F.Number number ↦ Ok (printed_number number)
     | Operand-F.Text bytes ↦ Ok bytes
     | Operand-F.Figure figure ↦ Ok (figure_byte figure ∷ [])
@@ -122,7 +122,7 @@ module _ (areas more : List Area) (store tail : Roots) (inside : AreInside areas
   shown_at-same : (y : Operand-F Expr Operand Place Sub Window) →
       within.operand_step (length areas) (map-Operand Expr Operand Place Sub Window Bool Bool Bool Bool Bool (expr_within (length areas)) (operand_within (length areas)) (place_within (length areas)) (sub_within (length areas)) (window_within (length areas)) y) ≡ true →
       shown_at there y ≡ shown_at here y
-  shown_at-same (Operand-F.Place place) e = bytes-there (λ r bytes. Ok bytes) (reached place) (places.place-same areas more store tail inside place e)
+  shown_at-same (Operand-F.Place place) e = bytes-there (λ r bytes. place_shown r.form bytes) (reached place) (places.place-same areas more store tail inside place e)
   shown_at-same (Operand-F.Number number) e = refl
   shown_at-same (Operand-F.Text bytes) e = refl
   shown_at-same (Operand-F.Figure figure) e = refl

@@ -8,6 +8,7 @@ use Rattle.cob_tree.specs.declared.picture.Sign.TheVariants.{Within}
 use Rattle.cob_tree.specs.declared.place.Place.{fold-roll-Place}
 use Rattle.cob_store.specs.declared.area.Area.{Area}
 use Rattle.cob_store.specs.declared.area.Form.TheVariants as forms
+use Rattle.cob_store.specs.declared.area.Storage.TheVariants.{Digits}
 use Rattle.cob_store.specs.declared.spot.Spot.{Spot}
 use Rattle.cob_store.specs.declared.spot.Reached.{Reached}
 use Rattle.cob_store.specs.Answer.{Answer}
@@ -16,7 +17,7 @@ use Rattle.cob_store.specs.Store.{Roots, spot_bytes}
 use Rattle.cob_store.specs.Place as place
 use Rattle.cob_store.specs.Place.{Memory, memory_of, Value, OfMemory, reached_in, reached}
 use Rattle.cobol_theory.specs.stored_numbers.Laws.{Fits}
-use Rattle.cobol_theory.proofs.stored_numbers_lemmas.ReadBack.{read-back}
+use Rattle.cobol_theory.proofs.stored_numbers_lemmas.ReadBack.{read-digits}
 use Rattle.cobol_theory.specs.cell_items.Cell.{cell_place, IsCell, cell_bytes, Holds}
 
 -- ---- where it is
@@ -24,7 +25,7 @@ use Rattle.cobol_theory.specs.cell_items.Cell.{cell_place, IsCell, cell_bytes, H
 abbrev pub cell_reached : (root digits : ℕ) → Bool → Reached
 cell_reached root digits signed = record {
   spot = record { root = root; start = 0; length = digits };
-  form = forms.Number signed digits 0 Within;
+  form = forms.Number signed digits 0 (Digits Within);
 }
 
 pub cell-found : (areas : List Area) (item root digits : ℕ) (signed : Bool) → IsCell areas item root digits signed → (store : Roots) →
@@ -49,7 +50,7 @@ pub bytes-long : (digits : ℕ) (signed : Bool) (value : ℤ) → length (cell_b
 bytes-long digits false value = padded-long digits (unsigned_abs value)
 bytes-long digits true value = by_case (is_negative value)
   where
-    by_case : (minus : Bool) → length (signed_bytes true Within digits minus (unsigned_abs value)) ≡ digits
+    by_case : (minus : Bool) → length (signed_bytes true (Digits Within) digits minus (unsigned_abs value)) ≡ digits
     by_case true = overpunched-long digits (unsigned_abs value)
     by_case false = padded-long digits (unsigned_abs value)
 
@@ -72,12 +73,12 @@ fits-of digits false value fits = fits.0
 
 -- the bytes are read as the number
 pub read-whole : (areas : List Area) (item root digits : ℕ) (signed : Bool) → IsCell areas item root digits signed → (value : ℤ) → Fits signed digits value →
-    number_in signed Within (cell_bytes digits signed value) ≡ Some value
+    number_in signed (Digits Within) (cell_bytes digits signed value) ≡ Some value
 read-whole areas item root digits signed cell value = whole signed
   where
     no-sign : digits ≡ digits + 0
     no-sign = omega arith
 
-    whole : (signed : Bool) → Fits signed digits value → number_in signed Within (cell_bytes digits signed value) ≡ Some value
-    whole true fits = ap (λ size. number_in true Within (number_bytes true Within size value)) no-sign ∙ read-back true Within digits value cell.some cell.few fits
-    whole false fits = read-back false Within digits value cell.some cell.few fits
+    whole : (signed : Bool) → Fits signed digits value → number_in signed (Digits Within) (cell_bytes digits signed value) ≡ Some value
+    whole true fits = ap (λ size. number_in true (Digits Within) (number_bytes true (Digits Within) size value)) no-sign ∙ read-digits true Within digits value cell.some cell.few fits
+    whole false fits = read-digits false Within digits value cell.some cell.few fits

@@ -1,5 +1,5 @@
 -- A number is taken from the one that an added item holds.
-use Rattle.std.proofs.Common.{◌≡◌, ℕ, zero, suc, ◌+◌, ◌-◌, ◌%◌, ◌^◌, ◌<◌, ◌≤◌, nat_le, Bool, true, false, ◌&&◌, if◌then◌else◌, List, [], ◌∷◌, None, Some, refl, ap, sym, subst, ◌∙◌, arith, le-leb, ltb-true, cond, ltb}
+use Rattle.std.proofs.Common.{◌≡◌, ℕ, zero, suc, ◌+◌, ◌-◌, ◌%◌, ◌^◌, ◌<◌, ◌≤◌, nat_le, Bool, true, false, ◌&&◌, if◌then◌else◌, List, [], ◌∷◌, Option, None, Some, refl, ap, sym, subst, ◌∙◌, arith, le-leb, ltb-true, cond, ltb}
 use Rattle.std.specs.Prelude.{Ok, ℤ, pos, negsuc, ◌-ℤ◌, unsigned_abs, slice_set}
 use Rattle.std.proofs.Math.IntN.{sub_ℕ}
 use Rattle.cob_num.specs.declared.number.Dec.{Dec}
@@ -17,6 +17,7 @@ use Rattle.cob_tree.specs.declared.place.Operand.{fold-roll-Operand}
 use Rattle.cob_tree.specs.declared.place.Expr.TheOpen.{Operand-F}
 use Rattle.cob_store.specs.declared.area.Area.{Area}
 use Rattle.cob_store.specs.declared.area.Form.TheVariants as forms
+use Rattle.cob_store.specs.declared.area.Storage.TheVariants.{Digits}
 use Rattle.cob_store.specs.declared.spot.Spot.{Spot}
 use Rattle.cob_store.specs.declared.spot.Reached.{Reached}
 use Rattle.cob_store.specs.Answer.{Answer, and_then}
@@ -25,7 +26,7 @@ use Rattle.cob_store.specs.Number.{number_in}
 use Rattle.cob_store.specs.Place as place
 use Rattle.cob_store.specs.Place.{Memory, memory_of, Value, OfMemory, kept, literal_value, number_at, operand_value}
 use Rattle.meanings.specs.statements.Outcome.{done, go_on, then_do}
-use Rattle.meanings.specs.statements.Arithmetic.{Less, basis_of, value_for, part_of, given, given_by, targeted, all_targeted, calculated, both}
+use Rattle.meanings.specs.statements.Arithmetic.{Less, basis_of, value_for, part_of, given, given_by, target_mask, targeted, all_targeted, calculated, both}
 use Rattle.cobol_theory.specs.stored_numbers.Laws.{Fits}
 use Rattle.cobol_theory.specs.cell_items.Cell.{number_operand, IsCell, cell_bytes, Holds}
 use Rattle.cobol_theory.specs.cell_items.Laws.{IsWhole, less_in, goes_past, target_of}
@@ -110,6 +111,9 @@ module _ (areas : List Area) (item root digits : ℕ) (cell : IsCell areas item 
   abbrev spot : Spot
   spot = record { root = root; start = 0; length = digits }
 
+  abbrev mask : Option (List ℕ)
+  mask = target_mask areas (target_of item)
+
   within : FitsDigits value
   within = below-limit value digits cell.few fits
 
@@ -119,9 +123,9 @@ module _ (areas : List Area) (item root digits : ℕ) (cell : IsCell areas item 
   abbrev left : Dec
   left = whole_of (value -ℤ worth.value) near
 
-  now-worth : number_at store spot (forms.Number true digits 0 Within) ≡ Ok (Some (whole_of value within))
+  now-worth : number_at store spot (forms.Number true digits 0 (Digits Within)) ≡ Ok (Some (whole_of value within))
   now-worth =
-      ap (λ bytes. and_then (number_of (number_in true Within bytes) 0) (λ number. Ok (Some number))) (cell-read store root digits true value holding)
+      ap (λ bytes. and_then (number_of (number_in true (Digits Within) bytes) 0) (λ number. Ok (Some number))) (cell-read store root digits true value holding)
       ∙ ap (λ z. and_then (number_of z 0) (λ number. Ok (Some number))) (read-whole areas item root digits true cell value fits)
       ∙ ap (λ answer. and_then answer (λ number. Ok (Some number))) (number-is value within)
 
@@ -130,19 +134,19 @@ module _ (areas : List Area) (item root digits : ℕ) (cell : IsCell areas item 
       ap (λ answer. and_then (and_then answer (λ value. Ok value)) (λ sum. Ok (Less sum))) (number-value (memory_of areas store) number)
       ∙ ap (λ v. Ok (Less v)) is.value
 
-  given-low : given false store spot (forms.Number true digits 0 Within) false (Some left)
+  given-low : given mask false store spot (forms.Number true digits 0 (Digits Within)) false (Some left)
       ≡ done (slice_set store root (cell_bytes digits true (less_in digits value worth.value))) (goes_past digits value worth.value)
   given-low =
-      ap (λ stored. given_by false store spot true Within stored) (low-kept digits left cell.some cell.few refl)
+      ap (λ stored. given_by false store spot true (Digits Within) stored) (low-kept digits left cell.some cell.few refl)
       ∙ ap (λ b. if b then done store true else done (put_at store spot (cell_bytes digits true (less_in digits value worth.value))) (goes_past digits value worth.value)) (and-no (goes_past digits value worth.value))
       ∙ ap (λ s. done s (goes_past digits value worth.value)) (put-whole store root digits (cell_bytes digits true value) (cell_bytes digits true (less_in digits value worth.value)) holding (bytes-long digits true value) (bytes-long digits true (less_in digits value worth.value)))
 
   targeted-low : targeted areas false (Less (Some worth)) store (target_of item)
       ≡ done (slice_set store root (cell_bytes digits true (less_in digits value worth.value))) (goes_past digits value worth.value)
   targeted-low =
-      ap (λ r. go_on store r (λ now place. go_on now (value_for (part_of place.form) (number_at now place.spot place.form) (Less (Some worth))) (λ later value. given false later place.spot place.form false value))) (cell-found areas item root digits true cell store)
-      ∙ ap (λ answer. go_on store (and_then answer (λ old. Ok (both difference_of old (Some worth)))) (λ later value. given false later spot (forms.Number true digits 0 Within) false value)) now-worth
-      ∙ ap (λ v. given false store spot (forms.Number true digits 0 Within) false v) (difference-is value within worth is.whole near)
+      ap (λ r. go_on store r (λ now place. go_on now (value_for (part_of mask place.form) (number_at now place.spot place.form) (Less (Some worth))) (λ later value. given mask false later place.spot place.form false value))) (cell-found areas item root digits true cell store)
+      ∙ ap (λ answer. go_on store (and_then answer (λ old. Ok (both difference_of old (Some worth)))) (λ later value. given mask false later spot (forms.Number true digits 0 (Digits Within)) false value)) now-worth
+      ∙ ap (λ v. given mask false store spot (forms.Number true digits 0 (Digits Within)) false v) (difference-is value within worth is.whole near)
       ∙ given-low
 
   pub lowered : calculated areas (calcs.Subtract (number_operand number ∷ [])) false (target_of item ∷ []) store

@@ -10,14 +10,16 @@ use Rattle.cob_tree.specs.declared.ending.Abend.TheVariants.{BadDigits}
 use Rattle.cob_tree.specs.declared.number.Number.{Number}
 use Rattle.cob_tree.specs.declared.picture.Sign.TheVariants.{Within}
 use Rattle.cob_tree.specs.declared.place.Operand.{Operand, out-roll-Operand}
-use Rattle.cob_tree.specs.declared.place.Place.{Place}
+use Rattle.cob_tree.specs.declared.place.Place.{Place, out-Place, out-roll-Place}
 use Rattle.cob_tree.specs.declared.place.Expr.{Expr}
 use Rattle.cob_tree.specs.declared.place.Sub.{Sub}
 use Rattle.cob_tree.specs.declared.place.Window.{Window}
 use Rattle.cob_tree.specs.declared.place.Expr.TheOpen.{Operand-F}
 use Rattle.cob_store.specs.declared.area.Area.{Area}
 use Rattle.cob_store.specs.declared.area.Form.TheVariants as forms
+use Rattle.cob_store.specs.declared.area.Storage.TheVariants.{Digits}
 use Rattle.cob_store.specs.Answer.{Answer, and_then, there_or}
+use Rattle.cob_store.specs.Area.{mask_of}
 use Rattle.cob_store.specs.Store.{Roots, put_at, replaced}
 use Rattle.cob_store.specs.Place.{Memory, memory_of, reached}
 use Rattle.meanings.specs.statements.Outcome.{Outcome, done, go_on, each}
@@ -43,7 +45,7 @@ stored-whole number digits whole fits =
 
 -- what an added item is given
 pub number-given : (digits : ℕ) (signed : Bool) (number : Dec) → 1 ≤ digits → digits ≤ 18 → number.scale ≡ 0 → unsigned_abs number.value < 10 ^ digits →
-    number_received signed digits 0 Within digits number ≡ Ok (cell_bytes digits signed number.value)
+    number_received signed digits 0 (Digits Within) digits number ≡ Ok (cell_bytes digits signed number.value)
 number-given digits signed number some few whole fits =
     ap (λ n. and_then (there_or BadDigits (if nat_le 1 n && nat_le n 18 then Some (stored_of number n 0 false) else None)) (λ stored. Ok (cell_bytes digits signed stored.value))) no-part
     ∙ ap (λ b. and_then (there_or BadDigits (if b then Some (stored_of number digits 0 false) else None)) (λ stored. Ok (cell_bytes digits signed stored.value)))
@@ -90,11 +92,13 @@ unfolding sent_at
 number-sent memory asked number = ap (sent_at memory asked) (out-roll-Operand (Operand-F.Number number))
 
 module _ (areas : List Area) (item root digits : ℕ) (signed : Bool) (cell : IsCell areas item root digits signed) (store : Roots) (value : ℤ) (holds : Holds store root digits signed value) where
-  pub given-number : (sender : Sender) (worth : Dec) → received (forms.Number signed digits 0 Within) digits sender ≡ and_then (Ok worth) (number_received signed digits 0 Within digits) →
+  pub given-number : (sender : Sender) (worth : Dec) → received None (forms.Number signed digits 0 (Digits Within)) digits sender ≡ and_then (Ok worth) (number_received signed digits 0 (Digits Within) digits) →
       worth.scale ≡ 0 → unsigned_abs worth.value < 10 ^ digits →
-      receive areas sender store (reached (cell_place item)) ≡ done (slice_set store root (cell_bytes digits signed worth.value)) tt
+      receive areas sender store (out-Place (cell_place item)).item (reached (cell_place item)) ≡ done (slice_set store root (cell_bytes digits signed worth.value)) tt
   given-number sender worth is whole fits =
-      ap (λ r. go_on store r (λ now place. put_answer now place.spot (received place.form place.spot.length sender))) (cell-found areas item root digits signed cell store)
+      ap (λ n. receive areas sender store n (reached (cell_place item))) (ap (λ p. p.item) (out-roll-Place (record { item = item; of = []; subs = []; window = None })))
+      ∙ ap (λ mask. go_on store (reached (cell_place item) (memory_of areas store)) (λ now place. put_answer now place.spot (received mask place.form place.spot.length sender))) (ap mask_of cell.lies)
+      ∙ ap (λ r. go_on store r (λ now place. put_answer now place.spot (received None place.form place.spot.length sender))) (cell-found areas item root digits signed cell store)
       ∙ ap (put_answer store (record { root = root; start = 0; length = digits })) (is ∙ number-given digits signed worth cell.some cell.few whole fits)
       ∙ ap (λ s. done s tt) (put-whole store root digits (cell_bytes digits signed value) (cell_bytes digits signed worth.value) holds (bytes-long digits signed value) (bytes-long digits signed worth.value))
 
@@ -102,7 +106,7 @@ module _ (areas : List Area) (item root digits : ℕ) (signed : Bool) (cell : Is
   pub moved-number : (number : Number) (worth : Dec) → IsWhole number worth digits →
       moved areas (number_operand number) (cell_place item ∷ []) store ≡ done (slice_set store root (cell_bytes digits signed worth.value)) tt
   moved-number number worth is =
-      ap (λ sender. go_on store sender (λ now sender. each (λ store place. receive areas sender store (reached place)) now (cell_place item ∷ [])))
+      ap (λ sender. go_on store sender (λ now sender. each (λ store place. receive areas sender store (out-Place place).item (reached place)) now (cell_place item ∷ [])))
       (number-sent (memory_of areas store) (not (all_groups areas (cell_place item ∷ []))) number)
       ∙ ap (λ (outcome : Outcome (Unit {0})). go_on outcome.store outcome.answer (λ now _. done now tt))
-      (given-number (Written number) worth (ap (λ v. and_then (there_or BadDigits v) (number_received signed digits 0 Within digits)) is.value) is.whole is.fits)
+      (given-number (Written number) worth (ap (λ v. and_then (there_or BadDigits v) (number_received signed digits 0 (Digits Within) digits)) is.value) is.whole is.fits)

@@ -9,13 +9,14 @@ use Rattle.cob_tree.specs.declared.picture.Sign.TheVariants.{Within}
 use Rattle.cob_tree.specs.declared.place.Figure.TheVariants as figures
 use Rattle.cob_tree.specs.declared.place.Expr.{Expr}
 use Rattle.cob_tree.specs.declared.place.Operand.{Operand, out-Operand, map-Operand, fold_out-Operand}
-use Rattle.cob_tree.specs.declared.place.Place.{Place, out-roll-Place}
+use Rattle.cob_tree.specs.declared.place.Place.{Place, out-Place, out-roll-Place}
 use Rattle.cob_tree.specs.declared.place.Sub.{Sub}
 use Rattle.cob_tree.specs.declared.place.Window.{Window}
 use Rattle.cob_tree.specs.declared.place.Expr.TheOpen.{Operand-F}
 use Rattle.cob_store.specs.declared.area.Area.{Area}
 use Rattle.cob_store.specs.declared.area.Form.{Form}
 use Rattle.cob_store.specs.declared.area.Form.TheVariants as forms
+use Rattle.cob_store.specs.declared.area.Storage.TheVariants.{Digits}
 use Rattle.cob_store.specs.declared.spot.Spot.{Spot}
 use Rattle.cob_store.specs.declared.spot.Reached.{Reached}
 use Rattle.cob_store.specs.Answer.{Answer, and_then, there_or}
@@ -70,7 +71,7 @@ worth-of memory operand =
 pub record IsSender (memory : Memory) (y : Layered) (number : Dec) : Type 0 where
   pub sender : Sender
   pub sent : sent_by memory y ≡ Ok sender
-  pub given : (signed : Bool) (digits : ℕ) → received (forms.Number signed digits 0 Within) digits sender ≡ and_then (Ok number) (number_received signed digits 0 Within digits)
+  pub given : (signed : Bool) (digits : ℕ) → received None (forms.Number signed digits 0 (Digits Within)) digits sender ≡ and_then (Ok number) (number_received signed digits 0 (Digits Within) digits)
 
 from-item : (memory : Memory) (p : Place) (number : Dec) (r : Answer Reached) → reached p memory ≡ r →
     and_then r (λ (r : Reached). number_at memory.store r.spot r.form) ≡ Ok (Some number) → IsSender memory (Operand-F.Place p) number
@@ -79,16 +80,17 @@ from-item memory p number (Ok r) at is = by_form r.form refl
   where
     by_form : (form : Form) → r.form ≡ form → IsSender memory (Operand-F.Place p) number
     by_form forms.Group e = let bad : number_at memory.store r.spot forms.Group ≡ Ok (Some number) = subst (λ f. number_at memory.store r.spot f ≡ Ok (Some number)) e is in cc
+    by_form forms.Edited e = let bad : number_at memory.store r.spot forms.Edited ≡ Ok (Some number) = subst (λ f. number_at memory.store r.spot f ≡ Ok (Some number)) e is in cc
     by_form forms.Text e = let bad : number_at memory.store r.spot forms.Text ≡ Ok (Some number) = subst (λ f. number_at memory.store r.spot f ≡ Ok (Some number)) e is in cc
-    by_form (forms.Number signed whole part sign) e =
+    by_form (forms.Number signed whole part storage) e =
         let bytes = spot_bytes memory.store r.spot in
-        let read : and_then (number_of (number_in signed sign bytes) part) (λ number. Ok (Some number)) ≡ Ok (Some number) = subst (λ f. number_at memory.store r.spot f ≡ Ok (Some number)) e is in
+        let read : and_then (number_of (number_in signed storage bytes) part) (λ number. Ok (Some number)) ≡ Ok (Some number) = subst (λ f. number_at memory.store r.spot f ≡ Ok (Some number)) e is in
         record {
           sender = Counted bytes (whole + part) (Some number);
           sent =
               ap (λ reached. and_then reached (λ (r : Reached). sent true r.form (spot_bytes memory.store r.spot))) at
               ∙ ap (λ f. sent true f bytes) e
-              ∙ ap (λ answer. and_then answer (λ number. Ok (Counted bytes (whole + part) (Some number)))) (only (number_of (number_in signed sign bytes) part) read);
+              ∙ ap (λ answer. and_then answer (λ number. Ok (Counted bytes (whole + part) (Some number)))) (only (number_of (number_in signed storage bytes) part) read);
           given = λ signed digits. refl;
         }
       where
@@ -99,13 +101,13 @@ from-item memory p number (Ok r) at is = by_form r.form refl
 pub is-sender : (memory : Memory) (y : Layered) (number : Dec) → worth_by memory y ≡ Ok (Some number) → IsSender memory y number
 is-sender memory (Operand-F.Place p) number is = from-item memory p number (reached p memory) refl is
 is-sender memory (Operand-F.Number literal) number is =
-    record { sender = Written literal; sent = refl; given = λ signed digits. ap (λ v. and_then (there_or BadDigits v) (number_received signed digits 0 Within digits)) (inner is) }
+    record { sender = Written literal; sent = refl; given = λ signed digits. ap (λ v. and_then (there_or BadDigits v) (number_received signed digits 0 (Digits Within) digits)) (inner is) }
   where
     inner : ◌≡◌ {A = Answer Value} (Ok (literal_value literal)) (Ok (Some number)) → literal_value literal ≡ Some number
     inner e = cc
 is-sender memory (Operand-F.Text bytes) number is = cc
 is-sender memory (Operand-F.Figure figures.Zero) number is =
-    record { sender = Figured figures.Zero; sent = refl; given = λ signed digits. ap (λ v. and_then (there_or BadDigits v) (number_received signed digits 0 Within digits)) (inner is) }
+    record { sender = Figured figures.Zero; sent = refl; given = λ signed digits. ap (λ v. and_then (there_or BadDigits v) (number_received signed digits 0 (Digits Within) digits)) (inner is) }
   where
     inner : ◌≡◌ {A = Answer Value} (Ok (decimal (pos 0) 0)) (Ok (Some number)) → decimal (pos 0) 0 ≡ Some number
     inner e = cc
@@ -125,13 +127,14 @@ bad-item memory p abend (Ok r) at is = by_form r.form refl
   where
     by_form : (form : Form) → r.form ≡ form → place_sent memory true (reached p) ≡ Err abend
     by_form forms.Group e = let bad : number_at memory.store r.spot forms.Group ≡ Err abend = subst (λ f. number_at memory.store r.spot f ≡ Err abend) e is in cc
+    by_form forms.Edited e = let bad : number_at memory.store r.spot forms.Edited ≡ Err abend = subst (λ f. number_at memory.store r.spot f ≡ Err abend) e is in cc
     by_form forms.Text e = let bad : number_at memory.store r.spot forms.Text ≡ Err abend = subst (λ f. number_at memory.store r.spot f ≡ Err abend) e is in cc
-    by_form (forms.Number signed whole part sign) e =
+    by_form (forms.Number signed whole part storage) e =
         let bytes = spot_bytes memory.store r.spot in
-        let read : and_then (number_of (number_in signed sign bytes) part) (λ number. Ok (Some number)) ≡ Err abend = subst (λ f. number_at memory.store r.spot f ≡ Err abend) e is in
+        let read : and_then (number_of (number_in signed storage bytes) part) (λ number. Ok (Some number)) ≡ Err abend = subst (λ f. number_at memory.store r.spot f ≡ Err abend) e is in
         ap (λ reached. and_then reached (λ (r : Reached). sent true r.form (spot_bytes memory.store r.spot))) at
         ∙ ap (λ f. sent true f bytes) e
-        ∙ ap (λ answer. and_then answer (λ number. Ok (Counted bytes (whole + part) (Some number)))) (only (number_of (number_in signed sign bytes) part) read)
+        ∙ ap (λ answer. and_then answer (λ number. Ok (Counted bytes (whole + part) (Some number)))) (only (number_of (number_in signed storage bytes) part) read)
       where
         only : (answer : Answer Dec) → and_then answer (λ number. Ok (Some number)) ≡ Err abend → answer ≡ Err abend
         only (Ok found) is = cc
@@ -157,10 +160,10 @@ module _ (areas : List Area) (item root digits : ℕ) (signed : Bool) (cell : Is
       ∙ ap (λ area. not (is_group (area_form false area) && true)) cell.lies
 
   moving : (operand : Operand) (answer : Answer Sender) → sent_by (memory_of areas store) (out-Operand operand) ≡ answer →
-      moved areas operand (cell_place item ∷ []) store ≡ go_on store answer (λ now sender. each (λ store place. receive areas sender store (reached place)) now (cell_place item ∷ []))
+      moved areas operand (cell_place item ∷ []) store ≡ go_on store answer (λ now sender. each (λ store place. receive areas sender store (out-Place place).item (reached place)) now (cell_place item ∷ []))
   moving operand answer is =
-      ap (λ asked. go_on store (operand_sent (memory_of areas store) asked operand) (λ now sender. each (λ store place. receive areas sender store (reached place)) now (cell_place item ∷ []))) number-asked
-      ∙ ap (λ answer. go_on store answer (λ now sender. each (λ store place. receive areas sender store (reached place)) now (cell_place item ∷ []))) is
+      ap (λ asked. go_on store (operand_sent (memory_of areas store) asked operand) (λ now sender. each (λ store place. receive areas sender store (out-Place place).item (reached place)) now (cell_place item ∷ []))) number-asked
+      ∙ ap (λ answer. go_on store answer (λ now sender. each (λ store place. receive areas sender store (out-Place place).item (reached place)) now (cell_place item ∷ []))) is
 
   pub moved-value : (operand : Operand) (number : Dec) (value : ℤ) → Holds store root digits signed value →
       operand_value operand (memory_of areas store) ≡ Ok (Some number) → number.scale ≡ 0 → unsigned_abs number.value < 10 ^ digits →

@@ -23,6 +23,7 @@ use Rattle.cob_tree.specs.declared.place.Sub.{Sub}
 use Rattle.cob_tree.specs.declared.place.Window.{Window}
 use Rattle.cob_tree.specs.declared.place.Expr.TheOpen.{Expr-F, Operand-F}
 use Rattle.cob_store.specs.declared.area.Area.{Area}
+use Rattle.cob_store.specs.declared.area.Storage.TheVariants.{Digits}
 use Rattle.cob_store.specs.declared.spot.Reached.{Reached}
 use Rattle.cob_store.specs.Answer.{Answer, and_then, there_or}
 use Rattle.cob_store.specs.Store.{Roots, spot_bytes, number_of}
@@ -76,13 +77,13 @@ module _ (areas : List Area) (item root digits : ℕ) (signed : Bool) (cell : Is
   memory = memory_of areas store
 
   abbrev pub side : Side
-  side = Item signed 0 Within (cell_bytes digits signed value)
+  side = Item signed 0 (Digits Within) (cell_bytes digits signed value)
 
   pub cell-read-side : expr_side memory (operand_expr (cell_operand item)) ≡ Ok side
   cell-read-side =
       leaf-side memory (cell_operand item) ∙ cell-side memory item
       ∙ ap (λ r. and_then r (λ (place : Reached). Ok (item_side place.form (spot_bytes store place.spot)))) (cell-found areas item root digits signed cell store)
-      ∙ ap (λ bytes. Ok (Item signed 0 Within bytes)) (cell-read store root digits signed value holding)
+      ∙ ap (λ bytes. Ok (Item signed 0 (Digits Within) bytes)) (cell-read store root digits signed value holding)
 
   pub side-value : (within : FitsDigits value) → side_number side ≡ Ok (whole_of value within)
   side-value within = ap (λ z. number_of z 0) (read-whole areas item root digits signed cell value fits) ∙ number-is value within

@@ -1,6 +1,7 @@
 -- Operands and places that are worth whole numbers.
-use Rattle.std.proofs.Common.{◌≡◌, ℕ, zero, suc, ◌+◌, ◌-◌, ◌*◌, ◌^◌, ◌<◌, ◌≤◌, nat_le, Bool, true, false, if◌then◌else◌, List, [], ◌∷◌, length, None, Some, Option, refl, ap, sym, subst, ◌∙◌, ◌⊎◌, inl, inr, arith, leb-true}
+use Rattle.std.proofs.Common.{◌≡◌, ℕ, zero, suc, ◌+◌, ◌-◌, ◌*◌, ◌^◌, ◌<◌, ◌≤◌, nat_le, Bool, true, false, if◌then◌else◌, List, [], ◌∷◌, length, None, Some, Option, refl, ap, sym, subst, ◌∙◌, ◌⊎◌, inl, inr, arith, leb-true, eqb-true, ◌&&◌}
 use Rattle.std.specs.Prelude.{Ok, Err, ℤ, pos, neg_ℤ, unsigned_abs, slice_get, slice_index, option_and_then, take, drop, ◌==◌}
+use Rattle.std.specs.Int.Digits.{number_from_digits}
 use Rattle.std.proofs.lemmas.Bool.{and_parts}
 use Rattle.std.proofs.lemmas.List.{length-take, length-drop}
 use Rattle.std.proofs.Math.Nat.{mul-le-mul_right, mul_assoc}
@@ -9,6 +10,11 @@ use Rattle.cob_num.specs.Digits.{scale_limit}
 use Rattle.cob_num.specs.Exact.{decimal, tested, fits_digits}
 use Rattle.cob_num.proofs.LimitLemmas.{decimal_yes}
 use Rattle.cob_num.proofs.PowerLemmas.{power_up_to}
+use Rattle.stored_forms.specs.Item.{is_held}
+use Rattle.stored_forms.specs.Binary.{binary_size, binary_value, signed_number}
+use Rattle.stored_forms.specs.Packed.{packed_size, packed_value}
+use Rattle.stored_forms.proofs.ItemLemmas.{held-from-test}
+use Rattle.stored_forms.proofs.RuleLemmas.{packed-read}
 use Rattle.cob_tree.specs.declared.ending.Abend.{Abend}
 use Rattle.cob_tree.specs.declared.ending.Abend.TheVariants.{BadDigits}
 use Rattle.cob_tree.specs.declared.picture.Sign.{Sign}
@@ -21,11 +27,13 @@ use Rattle.cob_tree.specs.declared.place.Sub.{Sub}
 use Rattle.cob_tree.specs.declared.place.Window.{Window}
 use Rattle.cob_tree.specs.declared.place.Expr.TheOpen.{Operand-F, Place-F}
 use Rattle.cob_store.specs.declared.area.Area.{Area}
+use Rattle.cob_store.specs.declared.area.Storage.{Storage}
+use Rattle.cob_store.specs.declared.area.Storage.TheVariants.{Digits, Binary, Packed}
 use Rattle.cob_store.specs.declared.spot.Spot.{Spot}
 use Rattle.cob_store.specs.declared.spot.Reached.{Reached}
 use Rattle.cob_store.specs.Answer.{Answer, and_then, there_or}
 use Rattle.cob_tree.specs.Digits.{is_digit, digits_after, digits_value}
-use Rattle.cob_store.specs.Number.{front, last, positive, negative, is_overpunched, within, beside, number_in}
+use Rattle.cob_store.specs.Number.{front, last, positive, negative, is_overpunched, within, beside, displayed_number, number_in, is_stored}
 use Rattle.cob_store.specs.Store.{Roots, spot_bytes, number_of}
 use Rattle.cob_store.specs.Place as place
 use Rattle.cob_store.specs.Place.{Memory, memory_of, Value, OfMemory, reached, reached_in, subscripted, spot_of, expr_value, operand_value, sub_value, number_at}
@@ -131,13 +139,48 @@ within-below bytes number short is = by_last (is_overpunched (last bytes)) refl 
         omega (arith, small, digit, is, same)
 
 -- so many bytes hold at most 18 digits
-number-below : (signed : Bool) (sign : Sign) (digits : ℕ) (bytes : List ℕ) (number : ℤ) → digits ≤ 18 → length bytes ≤ bytes_for signed sign digits → number_in signed sign bytes ≡ Some number → unsigned_abs number < 10 ^ 18
-number-below false sign digits bytes number few short is = small-of bytes number (positive-of (digits_value bytes) number is) (omega (arith, few, short))
-number-below true Within digits bytes number few short is = within-below bytes number (omega (arith, few, short)) is
-number-below true SeparateLeading digits bytes number few short is =
+displayed-below : (signed : Bool) (sign : Sign) (digits : ℕ) (bytes : List ℕ) (number : ℤ) → digits ≤ 18 → length bytes ≤ bytes_for signed (Digits sign) digits → displayed_number signed sign bytes ≡ Some number → unsigned_abs number < 10 ^ 18
+displayed-below false sign digits bytes number few short is = small-of bytes number (positive-of (digits_value bytes) number is) (omega (arith, few, short))
+displayed-below true Within digits bytes number few short is = within-below bytes number (omega (arith, few, short)) is
+displayed-below true SeparateLeading digits bytes number few short is =
     let cut = length-drop 1 bytes in small-of (drop 1 bytes) number (beside-of (slice_index bytes 0) (digits_value (drop 1 bytes)) number is) (omega (arith, cut, few, short))
-number-below true SeparateTrailing digits bytes number few short is =
+displayed-below true SeparateTrailing digits bytes number few short is =
     let cut = take-short (length bytes - 1) bytes in small-of (front bytes) number (beside-of (last bytes) (digits_value (front bytes)) number is) (omega (arith, cut, few, short))
+
+-- what a binary or packed item of so many digits holds, it reads where it has its size
+stored-below : (size : ℕ → ℕ) (digits places : ℕ) (read : Option ℤ) (number : ℤ) → (places ≡ size digits → read ≡ Some number → unsigned_abs number < 10 ^ digits) →
+    (if is_stored size digits places then read else None) ≡ Some number → unsigned_abs number < 10 ^ 18
+stored-below size digits places read number small is = by_stored (is_stored size digits places) refl is
+  where
+    by_stored : (t : Bool) → is_stored size digits places ≡ t → (if t then read else None) ≡ Some number → unsigned_abs number < 10 ^ 18
+    by_stored false e h = cc
+    by_stored true e h =
+        let first = and_parts (nat_le 1 digits && nat_le digits 18) (places == size digits) e in
+        let few = leb-true digits 18 (and_parts (nat_le 1 digits) (nat_le digits 18) first.0).1 in
+        let below = small (eqb-true places (size digits) first.1) h in
+        let more = power_up_to digits 18 few in
+        omega (arith, below, more)
+
+binary-below : (bytes : List ℕ) (digits : ℕ) (signed : Bool) (number : ℤ) → binary_value bytes digits signed ≡ Some number → unsigned_abs number < 10 ^ digits
+binary-below bytes digits signed number is = by_held (is_held value digits signed) refl is
+  where
+    value : ℤ
+    value = signed_number (length bytes) (number_from_digits 256 bytes)
+
+    by_held : (t : Bool) → is_held value digits signed ≡ t → (if t then Some value else None) ≡ Some number → unsigned_abs number < 10 ^ digits
+    by_held false e h = cc
+    by_held true e h = let same : value ≡ number = inner h in subst (λ z. unsigned_abs z < 10 ^ digits) same (held-from-test value digits signed e).short
+      where
+        inner : Some value ≡ Some number → value ≡ number
+        inner e = cc
+
+-- a number is read of at most 18 digits
+number-below : (signed : Bool) (storage : Storage) (digits : ℕ) (bytes : List ℕ) (number : ℤ) → digits ≤ 18 → length bytes ≤ bytes_for signed storage digits → number_in signed storage bytes ≡ Some number → unsigned_abs number < 10 ^ 18
+number-below signed (Digits sign) digits bytes number few short is = displayed-below signed sign digits bytes number few short is
+number-below signed (Binary stored) digits bytes number few short is =
+    stored-below binary_size stored (length bytes) (binary_value bytes stored signed) number (λ size read. binary-below bytes stored signed number read) is
+number-below signed (Packed stored) digits bytes number few short is =
+    stored-below packed_size stored (length bytes) (packed_value bytes stored signed) number (λ size read. (packed-read bytes stored signed number size read).short) is
 
 -- ---- a place
 
@@ -166,7 +209,7 @@ module _ (areas : List Area) (p : Place) (is : IsWholePlace areas p) where
   pub whole-item : IsWholeItem areas p
   whole-item store = elim (found store) [
     | inl bad ↦ inl bad
-    | inr good ↦ inr (spot_of is.area good.0, is.whole.signed, is.whole.digits, is.whole.sign, good.1 ∙ ap (λ form. Ok (record { spot = spot_of is.area good.0; form = form })) is.whole.form)
+    | inr good ↦ inr (spot_of is.area good.0, is.whole.signed, is.whole.digits, is.whole.storage, good.1 ∙ ap (λ form. Ok (record { spot = spot_of is.area good.0; form = form })) is.whole.form)
   ]
 
 -- ---- an operand
@@ -203,8 +246,8 @@ place-worth areas p is store = elim (found areas p is store) [
   | inr good ↦
       let spot = spot_of is.area good.0 in
       subst Worth (sym (ap (λ r. and_then r (λ (r : Reached). number_at store r.spot r.form)) good.1 ∙ ap (λ form. number_at store spot form) is.whole.form))
-      (read-worth (number_in is.whole.signed is.whole.sign (spot_bytes store spot)) (λ number e.
-      number-below is.whole.signed is.whole.sign is.whole.digits (spot_bytes store spot) number is.whole.few (subst (λ n. length (spot_bytes store spot) ≤ n) is.whole.size (take-short is.area.size _)) e))
+      (read-worth (number_in is.whole.signed is.whole.storage (spot_bytes store spot)) (λ number e.
+      number-below is.whole.signed is.whole.storage is.whole.digits (spot_bytes store spot) number is.whole.few (subst (λ n. length (spot_bytes store spot) ≤ n) is.whole.size (take-short is.area.size _)) e))
 ]
 
 amount-by : (areas : List Area) (y : Layered) → IsAmountBy areas y → (store : Roots) → Worth (worth_by (memory_of areas store) y)

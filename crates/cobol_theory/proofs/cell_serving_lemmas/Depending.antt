@@ -13,11 +13,11 @@ use Rattle.cob_tree.specs.declared.ending.Abend.{Abend}
 use Rattle.cob_tree.specs.declared.ending.Abend.TheVariants.{BadDigits}
 use Rattle.cob_tree.specs.declared.number.Number.{Number}
 use Rattle.cob_tree.specs.declared.choice.Subject.TheVariants as subjects
-use Rattle.cob_tree.specs.declared.picture.Sign.{Sign}
 use Rattle.cob_tree.specs.declared.place.Place.{Place}
 use Rattle.cob_tree.specs.declared.place.Operand.{out-roll-Operand}
 use Rattle.cob_tree.specs.declared.place.Expr.TheOpen.{Operand-F}
 use Rattle.cob_store.specs.declared.area.Form.TheVariants as forms
+use Rattle.cob_store.specs.declared.area.Storage.{Storage}
 use Rattle.cob_store.specs.declared.spot.Spot.{Spot}
 use Rattle.cob_store.specs.Answer.{Answer, and_then, there_or}
 use Rattle.cob_store.specs.Number.{number_in}
@@ -124,15 +124,15 @@ module _ (declared : Declared) (literal : ℕ → Number) (worth : AreLiterals l
         (side-is ∙ ap (λ r. and_then r (λ r. Ok (item_side r.form (spot_bytes memory.store r.spot)))) is),
   )
 
-  module _ (spot : Spot) (signed : Bool) (whole : ℕ) (sign : Sign) (is : reached p inside ≡ Ok (record { spot = spot; form = forms.Number signed whole 0 sign })) where
+  module _ (spot : Spot) (signed : Bool) (whole : ℕ) (storage : Storage) (is : reached p inside ≡ Ok (record { spot = spot; form = forms.Number signed whole 0 storage })) where
     abbrev bytes : List ℕ
     bytes = spot_bytes memory.store spot
 
     abbrev item : Side
-    item = Item signed 0 sign bytes
+    item = Item signed 0 storage bytes
 
     abbrev read : Answer Dec
-    read = number_of (number_in signed sign bytes) 0
+    read = number_of (number_in signed storage bytes) 0
 
     here-is : here ≡ and_then read (λ number. Ok (name_in names number))
     here-is =
@@ -152,7 +152,7 @@ module _ (declared : Declared) (literal : ℕ → Number) (worth : AreLiterals l
     compares number got lit worth whole =
         ap (λ a. and_then a (λ first. and_then (side_number (Literal lit)) (λ second. Ok (order_of first second)))) got
         ∙ ap (λ v. and_then (valued v) (λ second. Ok (order_of number second))) whole.value
-        ∙ ap Ok (order-whole number worth (number-whole (number_in signed sign bytes) number got) whole.whole)
+        ∙ ap Ok (order-whole number worth (number-whole (number_in signed storage bytes) number got) whole.whole)
 
     long : length numbers ≡ names
     long = long-as literal 1 names

@@ -15,6 +15,7 @@ use Rattle.cob_tree.specs.declared.picture.Sign.TheVariants.{Within}
 use Rattle.cob_tree.specs.declared.place.Operand.{out-roll-Operand}
 use Rattle.cob_tree.specs.declared.place.Expr.TheOpen.{Operand-F}
 use Rattle.cob_store.specs.declared.area.Form.TheVariants as forms
+use Rattle.cob_store.specs.declared.area.Storage.TheVariants.{Digits}
 use Rattle.cob_store.specs.Laying.{layout_of, area_of}
 use Rattle.cob_tree.specs.Digits.{digits_after, digits_value}
 use Rattle.cob_store.specs.Place.{signed_by, kept}
@@ -129,10 +130,10 @@ first-held : (cell : CellEntry) → 1 ≤ cell.digits → cell.digits ≤ 18 →
 unfolding zero-worth are-literals
 first-held cell some few =
     let size : cell.digits + 0 + 0 ≡ cell.digits = omega arith in
-    ap (λ y. started_by cell.signed Within (cell.digits + 0 + 0) (option_and_then (kept cell.digits 0 false) (value_in y))) (out-roll-Operand (Operand-F.Number (whole_literal 0)))
-    ∙ ap (λ value. started_by cell.signed Within (cell.digits + 0 + 0) (option_and_then (kept cell.digits 0 false) value)) (are-literals 18 0 (omega arith) (omega arith)).is.value
-    ∙ ap (λ size. started_by cell.signed Within size (kept cell.digits 0 false zero-worth)) size
-    ∙ ap (started_by cell.signed Within cell.digits) (low-kept cell.digits zero-worth some few refl)
+    ap (λ y. started_by cell.signed (Digits Within) (cell.digits + 0 + 0) (option_and_then (kept cell.digits 0 false) (value_in y))) (out-roll-Operand (Operand-F.Number (whole_literal 0)))
+    ∙ ap (λ value. started_by cell.signed (Digits Within) (cell.digits + 0 + 0) (option_and_then (kept cell.digits 0 false) value)) (are-literals 18 0 (omega arith) (omega arith)).is.value
+    ∙ ap (λ size. started_by cell.signed (Digits Within) size (kept cell.digits 0 false zero-worth)) size
+    ∙ ap (started_by cell.signed (Digits Within) cell.digits) (low-kept cell.digits zero-worth some few refl)
     ∙ ap (λ u. cell_bytes cell.digits cell.signed (pos u)) none-left
   where
     none-left : 0 % 10 ^ cell.digits ≡ 0
@@ -177,7 +178,7 @@ module _ (program result : Program) (cells : List CellEntry) (table : CellTable)
           lies =
               get-behind declared.areas.items added.areas (table.item range cell)
               ∙ area-at (entries_of cells) (length declared.areas.roots) (table.item range cell) (cell_entry found.0 (table.digits range cell) (table.signed range cell)) (entry-at cells (table.item range cell) each found.1)
-              ∙ ap (λ size. Some (record { root = length declared.areas.roots + table.item range cell; start = 0; size = size; form = forms.Number (table.signed range cell) (table.digits range cell) 0 Within; dims = [] })) size;
+              ∙ ap (λ size. Some (record { root = length declared.areas.roots + table.item range cell; start = 0; size = size; form = forms.Number (table.signed range cell) (table.digits range cell) 0 (Digits Within); dims = []; mask = None })) size;
         };
     room = are.room;
     apart = are.apart;

@@ -43,17 +43,18 @@ no-sign false is = refl
 -- ---- places and operands
 
 whole-form : (area : Area) (form : Form) → area.form ≡ form → is_whole_form area.size form ≡ true → IsWholeArea area
-whole-form area (forms.Number signed digits part sign) e is =
+whole-form area (forms.Number signed digits part storage) e is =
     let first = and_parts (part == 0 && nat_le digits 18) (area.size == _) is in
     let both = and_parts (part == 0) (nat_le digits 18) first.0 in
     record {
       signed = signed;
       digits = digits;
-      sign = sign;
-      form = e ∙ ap (λ part. forms.Number signed digits part sign) (equal part 0 both.0);
+      storage = storage;
+      form = e ∙ ap (λ part. forms.Number signed digits part storage) (equal part 0 both.0);
       few = leb-true digits 18 both.1;
       size = equal area.size _ first.1;
     }
+whole-form area forms.Edited e is = cc
 whole-form area forms.Group e is = cc
 whole-form area forms.Text e is = cc
 

@@ -17,7 +17,7 @@ use Rattle.cobol_theory.specs.added_items.Laying.{begins_with_item}
 
 -- an item with a picture is as long as the picture says
 abbrev SizeFits : Entry → ℕ → Type 0
-SizeFits entry size = is_condition entry ≡ false → (picture : Picture) → entry.picture ≡ Some picture → size ≡ picture_size picture entry.sign
+SizeFits entry size = is_condition entry ≡ false → (picture : Picture) → entry.picture ≡ Some picture → size ≡ picture_size picture entry.sign entry.usage
 
 abbrev SizesFit : List Entry → List ℕ → Type 0
 SizesFit [] sizes = Unit {0}
@@ -27,11 +27,11 @@ SizesFit (entry ∷ entries) (size ∷ sizes) = SizeFits entry size × SizesFit 
 sized-fits : (entry : Entry) (entries : List Entry) (later : Sized) → SizesFit entries later.sizes → SizesFit (entry ∷ entries) (sized_by entry later).sizes
 sized-fits entry entries later h = by_condition (is_condition entry) refl
   where
-    by_apart : (b : Bool) → SizesFit (entry ∷ entries) (if b then apart_sized (size_by entry.picture entry.sign 0) later else item_sized entry (size_by entry.picture entry.sign (inside entry.level 0 later.pieces)) later).sizes
-    by_apart true = (λ item picture is. ap (λ p. size_by p entry.sign 0) is, h)
-    by_apart false = (λ item picture is. ap (λ p. size_by p entry.sign (inside entry.level 0 later.pieces)) is, h)
+    by_apart : (b : Bool) → SizesFit (entry ∷ entries) (if b then apart_sized (size_by entry.picture entry.sign entry.usage 0) later else item_sized entry (size_by entry.picture entry.sign entry.usage (inside entry.level 0 later.pieces)) later).sizes
+    by_apart true = (λ item picture is. ap (λ p. size_by p entry.sign entry.usage 0) is, h)
+    by_apart false = (λ item picture is. ap (λ p. size_by p entry.sign entry.usage (inside entry.level 0 later.pieces)) is, h)
 
-    by_condition : (b : Bool) → is_condition entry ≡ b → SizesFit (entry ∷ entries) (if b then apart_sized 0 later else if is_apart entry then apart_sized (size_by entry.picture entry.sign 0) later else item_sized entry (size_by entry.picture entry.sign (inside entry.level 0 later.pieces)) later).sizes
+    by_condition : (b : Bool) → is_condition entry ≡ b → SizesFit (entry ∷ entries) (if b then apart_sized 0 later else if is_apart entry then apart_sized (size_by entry.picture entry.sign entry.usage 0) later else item_sized entry (size_by entry.picture entry.sign entry.usage (inside entry.level 0 later.pieces)) later).sizes
     by_condition true here = (λ item picture is. absurd (cc), h)
     by_condition false here = by_apart (is_apart entry)
 
@@ -43,7 +43,7 @@ sizes-fit (entry ∷ entries) = sized-fits entry entries (sized entries) (sizes-
 
 abbrev pub AreaFits : Entry → Area → Type 0
 AreaFits entry area = is_condition entry ≡ false → (picture : Picture) → entry.picture ≡ Some picture →
-    (area.size ≡ picture_size picture entry.sign) × (area.form ≡ form_by entry.sign (Some picture))
+    (area.size ≡ picture_size picture entry.sign entry.usage) × (area.form ≡ form_by entry.sign entry.usage (Some picture))
 
 abbrev AreasFit : List Entry → List Area → Type 0
 AreasFit [] areas = Unit {0}
@@ -60,7 +60,7 @@ get-there (x ∷ xs) zero h = (x, refl)
 get-there (x ∷ xs) (suc i) h = get-there xs i (omega (arith, h))
 
 of-size : (entry : Entry) (size root start : ℕ) (dims : List Dim) → SizeFits entry size → AreaFits entry (area_of entry size root start dims)
-of-size entry size root start dims h item picture is = (h item picture is, ap (form_by entry.sign) is)
+of-size entry size root start dims h item picture is = (h item picture is, ap (form_by entry.sign entry.usage) is)
 
 adds-one : (entry : Entry) (areas : List Area) (size root start : ℕ) (dims : List Dim) → SizeFits entry size → Adds entry areas (areas ++ area_of entry size root start dims ∷ [])
 adds-one entry areas size root start dims h = (area_of entry size root start dims, refl, of-size entry size root start dims h)

@@ -3,11 +3,15 @@ use Rattle.std.proofs.Common.{◌≡◌, ℕ, zero, suc, ◌+◌, ◌*◌, ◌-�
 use Rattle.std.specs.Prelude.{is_some, slice_get}
 use Rattle.std.specs.List.{list_all}
 use Rattle.std.proofs.lemmas.Bool.{and_parts, false≢true}
+use Rattle.stored_forms.specs.Binary.{binary_size}
+use Rattle.stored_forms.specs.Packed.{packed_size}
 use Rattle.cob_tree.specs.declared.entry.Entry.{Entry}
 use Rattle.cob_tree.specs.declared.number.Number.{Number}
 use Rattle.cob_tree.specs.declared.picture.Picture.{Picture}
 use Rattle.cob_tree.specs.declared.picture.Picture.TheVariants as pictures
 use Rattle.cob_tree.specs.declared.picture.Sign.{Sign}
+use Rattle.cob_tree.specs.declared.picture.Usage.{Usage}
+use Rattle.cob_tree.specs.declared.picture.Usage.TheVariants as usages
 use Rattle.cob_tree.specs.declared.place.Expr.{Expr}
 use Rattle.cob_tree.specs.declared.place.Expr.TheOpen.{Operand-F}
 use Rattle.cob_tree.specs.declared.place.Figure.TheVariants as figures
@@ -19,7 +23,8 @@ use Rattle.cob_store.specs.declared.area.Area.{Area}
 use Rattle.cob_store.specs.declared.area.Form.TheVariants as forms
 use Rattle.cob_store.specs.Laying.{layout_of}
 use Rattle.cob_tree.specs.Digits.{digits_after, digits_value}
-use Rattle.cob_store.specs.Size.{sign_size, is_condition}
+use Rattle.cob_store.specs.Number.{digit_count, storage_of}
+use Rattle.cob_store.specs.Size.{sign_size, number_size, is_condition}
 use Rattle.control_flow_theory.specs.language.All.{all}
 use Rattle.cobol_theory.specs.added_items.Laying.{begins_with_item}
 use Rattle.program_facts.specs.well_scoped.Part.{Counts, is_filled, is_digit, are_digits, number_named, place_named, operand_named, expr_named, sub_named, window_named}
@@ -38,17 +43,20 @@ HasPicture picture = (signed : Bool) × (whole : ℕ) × (part : ℕ) × (pictur
 picture-whole : (picture : Option Picture) → is_whole_picture picture ≡ true → HasPicture picture
 picture-whole None e = absurd (false≢true e)
 picture-whole (Some (pictures.Number signed whole part)) e = (signed, whole, part, refl, e)
+picture-whole (Some (pictures.Edited mask)) e = absurd (false≢true e)
 picture-whole (Some (pictures.Letters count)) e = absurd (false≢true e)
 picture-whole (Some (pictures.Any count)) e = absurd (false≢true e)
 
-form-whole : (signed : Bool) (whole part : ℕ) (sign : Sign) → (part == 0 && nat_le whole 18) ≡ true → (signed || sign_size sign == 0) ≡ true →
-    is_whole_form (whole + part + sign_size sign) (forms.Number signed whole part sign) ≡ true
-form-whole true whole part sign e f =
+form-whole : (usage : Usage) (signed : Bool) (whole part : ℕ) (sign : Sign) → (part == 0 && nat_le whole 18) ≡ true → (signed || sign_size sign == 0) ≡ true →
+    is_whole_form (number_size usage sign whole part) (forms.Number signed whole part (storage_of sign usage (digit_count whole part))) ≡ true
+form-whole usages.Display true whole part sign e f =
     let none = eqb-true part 0 (and_parts (part == 0) (nat_le whole 18) e).0 in both e (eq-eqb _ _ (omega (arith, none)))
-form-whole false whole part sign e f =
+form-whole usages.Display false whole part sign e f =
     let none = eqb-true part 0 (and_parts (part == 0) (nat_le whole 18) e).0 in
     let plain = eqb-true (sign_size sign) 0 f in
     both e (eq-eqb _ _ (omega (arith, none, plain)))
+form-whole usages.Binary signed whole part sign e f = both e (eq-eqb (binary_size (digit_count whole part)) (binary_size (digit_count whole part)) refl)
+form-whole usages.Packed signed whole part sign e f = both e (eq-eqb (packed_size (digit_count whole part)) (packed_size (digit_count whole part)) refl)
 
 no-condition : (condition has : Bool) → has ≡ true → not (condition && has) ≡ true → condition ≡ false
 no-condition true has h e = cc
@@ -62,7 +70,7 @@ area-whole entry area e f h =
     let sign = subst (λ p. sign_fits entry.sign p ≡ true) number.3 fits.1 in
     let is = h item (pictures.Number number.0 number.1 number.2) number.3 in
     subst (λ size. is_whole_form size area.form ≡ true) (sym is.0)
-    (subst (λ form. is_whole_form (number.1 + number.2 + sign_size entry.sign) form ≡ true) (sym is.1) (form-whole number.0 number.1 number.2 entry.sign number.4 sign))
+    (subst (λ form. is_whole_form (number_size entry.usage entry.sign number.1 number.2) form ≡ true) (sym is.1) (form-whole entry.usage number.0 number.1 number.2 entry.sign number.4 sign))
 
 -- ---- numbers
 

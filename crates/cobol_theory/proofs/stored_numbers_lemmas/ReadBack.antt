@@ -1,13 +1,21 @@
--- Digits, and the signs beside and within them, are read back.
-use Rattle.std.proofs.Common.{◌≡◌, ℕ, zero, suc, ◌+◌, ◌-◌, ◌*◌, ◌/◌, ◌%◌, ◌^◌, ◌<◌, ◌≤◌, nat_le, Bool, true, false, ◌&&◌, if◌then◌else◌, List, [], ◌∷◌, ◌++◌, length, Some, None, refl, ap, sym, ◌∙◌, subst, arith, le-leb, leb-true}
+-- Digits, and the signs beside and within them, are read back; and so are binary and packed numbers.
+use Rattle.std.proofs.Common.{◌≡◌, ℕ, zero, suc, ◌+◌, ◌-◌, ◌*◌, ◌/◌, ◌%◌, ◌^◌, ◌<◌, ◌≤◌, nat_le, Bool, true, false, ◌&&◌, if◌then◌else◌, List, [], ◌∷◌, ◌++◌, length, Some, None, refl, ap, sym, ◌∙◌, subst, arith, le-leb, leb-true, eq-eqb}
 use Rattle.std.proofs.lemmas.List.{length-append, take_at}
-use Rattle.std.specs.Prelude.{take, slice_index, option_and_then, ℤ, pos, negsuc, neg_ℤ, unsigned_abs}
+use Rattle.std.specs.Prelude.{◌==◌, take, slice_index, option_and_then, ℤ, pos, negsuc, neg_ℤ, unsigned_abs}
 use Rattle.std.specs.Int.{is_negative}
 use Rattle.cob_tree.specs.declared.picture.Sign.{Sign}
 use Rattle.cob_tree.specs.declared.picture.Sign.TheVariants.{Within, SeparateLeading, SeparateTrailing}
+use Rattle.cob_tree.specs.declared.picture.Usage.{Usage}
+use Rattle.cob_tree.specs.declared.picture.Usage.TheVariants as usages
+use Rattle.cob_store.specs.declared.area.Storage.TheVariants.{Digits}
+use Rattle.stored_forms.specs.Item.{IsHeld}
+use Rattle.stored_forms.specs.Binary.{binary_size}
+use Rattle.stored_forms.specs.Packed.{packed_size}
+use Rattle.std.proofs.lemmas.Int.{ints}
 use Rattle.cob_tree.specs.Digits.{is_digit, digits_after, digits_value}
-use Rattle.cob_store.specs.Number.{front, last, positive, negative, is_overpunched, within, beside, number_in, padded, overpunched, signed_bytes, number_bytes}
+use Rattle.cob_store.specs.Number.{front, last, positive, negative, is_overpunched, within, beside, displayed_number, number_in, padded, overpunched, displayed_bytes, number_bytes, storage_of, is_stored}
 use Rattle.cob_store.specs.Size.{sign_size}
+use Rattle.cob_store.proofs.PutLemmas.{not-below, binary-item, packed-item}
 use Rattle.cobol_theory.specs.stored_numbers.Laws.{bytes_for, Fits}
 
 -- digits behind digits
@@ -110,43 +118,61 @@ signed_as true n = neg_ℤ (pos n)
 signed_as false n = pos n
 
 read-by : (sign : Sign) (minus : Bool) (places n : ℕ) → suc places ≤ 18 → n < 10 ^ suc places →
-    number_in true sign (signed_bytes true sign (suc places + sign_size sign) minus n) ≡ Some (signed_as minus n)
-read-by Within false places n few h = subst (λ size. number_in true Within (signed_bytes true Within size false n) ≡ Some (pos n)) (no-more (suc places)) (within-read places n few h)
-read-by Within true places n few h = subst (λ size. number_in true Within (signed_bytes true Within size true n) ≡ Some (neg_ℤ (pos n))) (no-more (suc places)) (overpunched-read places n few h)
+    displayed_number true sign (displayed_bytes true sign (suc places + sign_size sign) minus n) ≡ Some (signed_as minus n)
+read-by Within false places n few h = subst (λ size. displayed_number true Within (displayed_bytes true Within size false n) ≡ Some (pos n)) (no-more (suc places)) (within-read places n few h)
+read-by Within true places n few h = subst (λ size. displayed_number true Within (displayed_bytes true Within size true n) ≡ Some (neg_ℤ (pos n))) (no-more (suc places)) (overpunched-read places n few h)
 read-by SeparateLeading false places n few h =
-    subst (λ size. number_in true SeparateLeading (signed_bytes true SeparateLeading size false n) ≡ Some (pos n)) (one-more (suc places)) (ap (beside 43) (value-read (suc places) n few h))
+    subst (λ size. displayed_number true SeparateLeading (displayed_bytes true SeparateLeading size false n) ≡ Some (pos n)) (one-more (suc places)) (ap (beside 43) (value-read (suc places) n few h))
 read-by SeparateLeading true places n few h =
-    subst (λ size. number_in true SeparateLeading (signed_bytes true SeparateLeading size true n) ≡ Some (neg_ℤ (pos n))) (one-more (suc places)) (ap (beside 45) (value-read (suc places) n few h))
+    subst (λ size. displayed_number true SeparateLeading (displayed_bytes true SeparateLeading size true n) ≡ Some (neg_ℤ (pos n))) (one-more (suc places)) (ap (beside 45) (value-read (suc places) n few h))
 read-by SeparateTrailing false places n few h =
-    subst (λ size. number_in true SeparateTrailing (signed_bytes true SeparateTrailing size false n) ≡ Some (pos n)) (one-more (suc places)) (trailing-read (suc places) n 43 few h)
+    subst (λ size. displayed_number true SeparateTrailing (displayed_bytes true SeparateTrailing size false n) ≡ Some (pos n)) (one-more (suc places)) (trailing-read (suc places) n 43 few h)
 read-by SeparateTrailing true places n few h =
-    subst (λ size. number_in true SeparateTrailing (signed_bytes true SeparateTrailing size true n) ≡ Some (neg_ℤ (pos n))) (one-more (suc places)) (trailing-read (suc places) n 45 few h)
-
-not-below : (n : ℕ) → is_negative (pos n) ≡ false
-not-below n = by_case (is_negative (pos n)) refl
-  where
-    by_case : (b : Bool) → b ≡ is_negative (pos n) → is_negative (pos n) ≡ false
-    by_case true is = absurd (omega (arith, leb-true (suc n) 0 (sym is)))
-    by_case false is = sym is
+    subst (λ size. displayed_number true SeparateTrailing (displayed_bytes true SeparateTrailing size true n) ≡ Some (neg_ℤ (pos n))) (one-more (suc places)) (trailing-read (suc places) n 45 few h)
 
 is-below : (n : ℕ) → is_negative (negsuc n) ≡ true
 is-below n = refl
 
 read-signed : (sign : Sign) (places : ℕ) (number : ℤ) → suc places ≤ 18 → unsigned_abs number < 10 ^ suc places →
-    number_in true sign (number_bytes true sign (suc places + sign_size sign) number) ≡ Some number
+    number_in true (Digits sign) (number_bytes true (Digits sign) (suc places + sign_size sign) number) ≡ Some number
 read-signed sign places (pos n) few h =
-    ap (λ minus. number_in true sign (signed_bytes true sign (suc places + sign_size sign) minus n)) (not-below n) ∙ read-by sign false places n few h
+    ap (λ minus. displayed_number true sign (displayed_bytes true sign (suc places + sign_size sign) minus n)) (not-below n) ∙ read-by sign false places n few h
 read-signed sign places (negsuc n) few h =
-    ap (λ minus. number_in true sign (signed_bytes true sign (suc places + sign_size sign) minus (suc n))) (is-below n) ∙ read-by sign true places (suc n) few h
+    ap (λ minus. displayed_number true sign (displayed_bytes true sign (suc places + sign_size sign) minus (suc n))) (is-below n) ∙ read-by sign true places (suc n) few h
 
 read-plain : (sign : Sign) (places : ℕ) (number : ℤ) → suc places ≤ 18 → unsigned_abs number < 10 ^ suc places → is_negative number ≡ false →
-    number_in false sign (number_bytes false sign (suc places) number) ≡ Some number
+    number_in false (Digits sign) (number_bytes false (Digits sign) (suc places) number) ≡ Some number
 read-plain sign places (pos n) few h plain = ap positive (value-read (suc places) n few h)
 read-plain sign places (negsuc n) few h plain = let is = is-below n in absurd (cc)
 
-pub read-back : (signed : Bool) (sign : Sign) (digits : ℕ) (number : ℤ) → 1 ≤ digits → digits ≤ 18 → Fits signed digits number →
-    number_in signed sign (number_bytes signed sign (bytes_for signed sign digits) number) ≡ Some number
-read-back true sign zero number some few fits = absurd (omega (arith, some))
-read-back true sign (suc places) number some few fits = read-signed sign places number few fits
-read-back false sign zero number some few fits = absurd (omega (arith, some))
-read-back false sign (suc places) number some few fits = read-plain sign places number few fits.0 fits.1
+-- what is stored in digits
+pub read-digits : (signed : Bool) (sign : Sign) (digits : ℕ) (number : ℤ) → 1 ≤ digits → digits ≤ 18 → Fits signed digits number →
+    number_in signed (Digits sign) (number_bytes signed (Digits sign) (bytes_for signed (Digits sign) digits) number) ≡ Some number
+read-digits true sign zero number some few fits = absurd (omega (arith, some))
+read-digits true sign (suc places) number some few fits = read-signed sign places number few fits
+read-digits false sign zero number some few fits = absurd (omega (arith, some))
+read-digits false sign (suc places) number some few fits = read-plain sign places number few fits.0 fits.1
+
+-- ---- binary and packed numbers
+
+stored-so : (size : ℕ → ℕ) (digits : ℕ) → 1 ≤ digits → digits ≤ 18 → is_stored size digits (size digits) ≡ true
+stored-so size digits some few =
+    ap (λ b. b && nat_le digits 18 && size digits == size digits) (le-leb 1 digits some)
+    ∙ ap (λ b. b && size digits == size digits) (le-leb digits 18 few)
+    ∙ eq-eqb (size digits) (size digits) refl
+
+-- an item has room for the number and its sign
+held-of : (signed : Bool) (digits : ℕ) (number : ℤ) → Fits signed digits number → IsHeld number digits signed
+held-of true digits number fits = record { short = fits; sign = λ unsigned. cc }
+held-of false digits (pos n) fits = record { short = fits.0; sign = λ unsigned. omega (arith, ints) }
+held-of false digits (negsuc n) fits = let is = is-below n in let plain = fits.1 in absurd (cc)
+
+-- ---- all usages
+
+pub read-back : (signed : Bool) (sign : Sign) (usage : Usage) (digits : ℕ) (number : ℤ) → 1 ≤ digits → digits ≤ 18 → Fits signed digits number →
+    number_in signed (storage_of sign usage digits) (number_bytes signed (storage_of sign usage digits) (bytes_for signed (storage_of sign usage digits) digits) number) ≡ Some number
+read-back signed sign usages.Display digits number some few fits = read-digits signed sign digits number some few fits
+read-back signed sign usages.Binary digits number some few fits =
+    (binary-item signed digits (binary_size digits) number (stored-so binary_size digits some few) (held-of signed digits number fits)).1
+read-back signed sign usages.Packed digits number some few fits =
+    (packed-item signed digits (packed_size digits) number (stored-so packed_size digits some few) (held-of signed digits number fits)).1

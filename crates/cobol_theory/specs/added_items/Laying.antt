@@ -29,7 +29,7 @@ have_levels entries = all (map (λ entry. nat_le 1 entry.level) entries)
 
 -- how many bytes an item has that stands alone
 abbrev pub size_alone : Entry → ℕ
-size_alone entry = size_by entry.picture entry.sign 0
+size_alone entry = size_by entry.picture entry.sign entry.usage 0
 
 -- where these items lie: each in a root of its own, the first of which has this number
 abbrev pub areas_alone : ℕ → List Entry → List Area
@@ -46,4 +46,4 @@ laid_behind areas entries = record {
 
 -- what its root holds at the start of a run
 abbrev pub first_bytes : Entry → List ℕ
-first_bytes entry = started (form_by entry.sign entry.picture) (size_alone entry) entry.value
+first_bytes entry = started (form_by entry.sign entry.usage entry.picture) (size_alone entry) entry.value

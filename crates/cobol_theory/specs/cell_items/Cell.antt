@@ -8,6 +8,7 @@ use Rattle.cob_tree.specs.declared.number.Number.{Number}
 use Rattle.cob_tree.specs.declared.picture.Sign.TheVariants.{Within}
 use Rattle.cob_store.specs.declared.area.Area.{Area}
 use Rattle.cob_store.specs.declared.area.Form.TheVariants as forms
+use Rattle.cob_store.specs.declared.area.Storage.TheVariants.{Digits}
 use Rattle.cob_store.specs.Number.{number_bytes}
 use Rattle.cob_store.specs.Store.{Roots}
 
@@ -38,13 +39,14 @@ pub record IsCell (areas : List Area) (item root digits : ℕ) (signed : Bool) :
     root = root;
     start = 0;
     size = digits;
-    form = forms.Number signed digits 0 Within;
+    form = forms.Number signed digits 0 (Digits Within);
     dims = [];
+    mask = None;
   })
 
 -- the bytes of a number in such an item
 abbrev pub cell_bytes : (digits : ℕ) → Bool → ℤ → List ℕ
-cell_bytes digits signed value = number_bytes signed Within digits value
+cell_bytes digits signed value = number_bytes signed (Digits Within) digits value
 
 -- the item's root holds that number
 abbrev pub Holds : Roots → (root digits : ℕ) → Bool → ℤ → Type 0

@@ -1,7 +1,6 @@
 -- Operands and places that are worth whole numbers, by what they are.
 use Rattle.std.specs.Prelude.{ℕ, ◌≡◌, ◌≤◌, Bool, List, None, Some, slice_get}
 use Rattle.cob_num.specs.declared.number.Dec.{Dec}
-use Rattle.cob_tree.specs.declared.picture.Sign.{Sign}
 use Rattle.cob_tree.specs.declared.place.Figure.TheVariants as figures
 use Rattle.cob_tree.specs.declared.place.Expr.{Expr}
 use Rattle.cob_tree.specs.declared.place.Operand.{Operand, out-Operand}
@@ -11,6 +10,7 @@ use Rattle.cob_tree.specs.declared.place.Window.{Window}
 use Rattle.cob_tree.specs.declared.place.Expr.TheOpen.{Operand-F}
 use Rattle.cob_store.specs.declared.area.Area.{Area}
 use Rattle.cob_store.specs.declared.area.Form.TheVariants as forms
+use Rattle.cob_store.specs.declared.area.Storage.{Storage}
 use Rattle.cobol_theory.specs.stored_numbers.Laws.{bytes_for}
 use Rattle.cobol_theory.specs.cell_items.Laws.{IsWhole}
 use Rattle.cobol_theory.specs.cell_serving.Choosing.{IsWholeItem}
@@ -20,13 +20,13 @@ use Rattle.cobol_theory.specs.cell_serving.Laws.{IsWholeAmount}
 pub record IsWholeArea (area : Area) : Type 0 where
   pub signed : Bool
   pub digits : ℕ
-  pub sign : Sign
+  pub storage : Storage
   -- it is a number without decimal places
-  pub form : area.form ≡ forms.Number signed digits 0 sign
+  pub form : area.form ≡ forms.Number signed digits 0 storage
   -- it has no more than 18 digits
   pub few : digits ≤ 18
-  -- it is as long as its digits and sign
-  pub size : area.size ≡ bytes_for signed sign digits
+  -- it is as long as its digits are, stored so
+  pub size : area.size ≡ bytes_for signed storage digits
 
 -- such an item, or an occurrence of it; a window would make text of it
 pub record IsWholePlace (areas : List Area) (place : Place) : Type 0 where

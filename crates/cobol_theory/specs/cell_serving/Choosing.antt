@@ -4,13 +4,13 @@ use Rattle.std.specs.Prelude.{ℕ, ◌≡◌, ◌^◌, ◌<◌, ◌≤◌, Bool,
 use Rattle.cob_tree.specs.declared.ending.Abend.{Abend}
 use Rattle.cob_tree.specs.declared.number.Number.{Number}
 use Rattle.cob_tree.specs.declared.choice.Subject.TheVariants as subjects
-use Rattle.cob_tree.specs.declared.picture.Sign.{Sign}
 use Rattle.cob_tree.specs.declared.place.Place.{Place}
 use Rattle.cob_tree.specs.declared.place.Operand.{roll-Operand}
 use Rattle.cob_tree.specs.declared.place.Expr.{Expr}
 use Rattle.cob_tree.specs.declared.place.Expr.TheOpen.{Operand-F}
 use Rattle.cob_store.specs.declared.area.Area.{Area}
 use Rattle.cob_store.specs.declared.area.Form.TheVariants as forms
+use Rattle.cob_store.specs.declared.area.Storage.{Storage}
 use Rattle.cob_store.specs.declared.spot.Spot.{Spot}
 use Rattle.cob_store.specs.Store.{Roots}
 use Rattle.cob_store.specs.Place.{memory_of, reached}
@@ -42,9 +42,9 @@ abbrev pub IsWholeItem : List Area → Place → Type 0
 IsWholeItem areas place =
     (store : Roots) →
     ((abend : Abend) × (reached place (memory_of areas store) ≡ Err abend))
-    ⊎ ((spot : Spot) × (signed : Bool) × (whole : ℕ) × (sign : Sign)
+    ⊎ ((spot : Spot) × (signed : Bool) × (whole : ℕ) × (storage : Storage)
     × (reached place (memory_of areas store)
-    ≡ Ok (record { spot = spot; form = forms.Number signed whole 0 sign })))
+    ≡ Ok (record { spot = spot; form = forms.Number signed whole 0 storage })))
 
 -- the item of GO TO DEPENDING is such an item, and there is a name and no more than 18 digits
 -- count; an AT END comes or goes only where a status item takes care of the end of the file as well

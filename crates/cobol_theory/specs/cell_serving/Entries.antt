@@ -5,6 +5,7 @@ use Rattle.cob_tree.specs.declared.entry.Entry.{Entry}
 use Rattle.cob_tree.specs.declared.number.Number.{Number}
 use Rattle.cob_tree.specs.declared.picture.Picture.TheVariants as pictures
 use Rattle.cob_tree.specs.declared.picture.Sign.TheVariants.{Within}
+use Rattle.cob_tree.specs.declared.picture.Usage.TheVariants.{Display}
 use Rattle.cob_tree.specs.declared.program.Program.{Program}
 use Rattle.cob_store.specs.Laying.{layout_of}
 use Rattle.control_flow_theory.specs.language.Language.{Range}
@@ -28,6 +29,7 @@ cell_entry name digits signed = record {
   redefines = None;
   picture = Some (pictures.Number signed digits 0);
   sign = Within;
+  usage = Display;
   occurs = None;
   value = Some (number_operand (whole_literal 0));
   ranges = [];

@@ -27,8 +27,9 @@ use Rattle.cobol_theory.specs.cell_serving.Laws.{AreLiterals, AreOfKinds}
 
 -- a number item without decimal places, of at most 18 digits
 abbrev pub is_whole_form : (size : ℕ) → Form → Bool
-is_whole_form size (forms.Number signed digits part sign) =
-    part == 0 && nat_le digits 18 && size == bytes_for signed sign digits
+is_whole_form size (forms.Number signed digits part storage) =
+    part == 0 && nat_le digits 18 && size == bytes_for signed storage digits
+is_whole_form size forms.Edited = false
 is_whole_form size forms.Group = false
 is_whole_form size forms.Text = false
 

@@ -19,6 +19,7 @@ use Rattle.program_facts.specs.well_scoped.Named.{NamesItsOwn}
 abbrev pub sign_fits : Sign → Option Picture → Bool
 sign_fits sign None = true
 sign_fits sign (Some (pictures.Number signed whole part)) = signed || sign_size sign == 0
+sign_fits sign (Some (pictures.Edited mask)) = true
 sign_fits sign (Some (pictures.Letters count)) = true
 sign_fits sign (Some (pictures.Any count)) = true
 

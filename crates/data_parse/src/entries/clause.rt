@@ -9,6 +9,7 @@ ghost use Rattle.cobol_grammar.specs.data_forms.Clause as clauses;
 use crate::entries::choice::{either, maybe_either, sees_either};
 use crate::entries::lists::pushed;
 use cob_base::Items;
+use cob_tree::Usage;
 use cobol_grammar::data_forms::{Clause, SpanDraft, ThruDraft};
 use parser_combinators::words::{literal, name, sees_literal};
 use parser_combinators::{Cursor, Position, Unread};
@@ -39,10 +40,60 @@ fn picture_clause(alloc: Global, cursor: &mut Cursor<'_>) -> Result<Clause, Unre
     Ok(Clause::Picture { at, text, text_at })
 }
 
+fn sees_binary(cursor: &Cursor<'_>) -> bool
+    ensures { result ≡ form.is_next clauses.is_binary cursor.now }
+{
+    cursor.sees(b"BINARY") || sees_either(cursor, b"COMP", b"COMPUTATIONAL")
+}
+
+fn sees_packed(cursor: &Cursor<'_>) -> bool
+    ensures { result ≡ form.is_next clauses.is_packed cursor.now }
+{
+    cursor.sees(b"PACKED-DECIMAL") || sees_either(cursor, b"COMP-3", b"COMPUTATIONAL-3")
+}
+
 fn sees_usage(cursor: &Cursor<'_>) -> bool
     ensures { result ≡ form.is_next clauses.is_usage cursor.now }
 {
-    sees_either(cursor, b"USAGE", b"DISPLAY")
+    sees_either(cursor, b"USAGE", b"DISPLAY") || (sees_binary(cursor) || sees_packed(cursor))
+}
+
+#[tactic(auto, unfolding(cobol_grammar::specs::data_forms::Clause::binary))]
+fn binary(cursor: &mut Cursor<'_>) -> Result<Position, Unread>
+    ensures { Reads (clauses.binary.reads cursor.old) result cursor.new }
+{
+    if cursor.sees(b"BINARY") {
+        cursor.key(b"BINARY")
+    } else {
+        either(cursor, b"COMP", b"COMPUTATIONAL")
+    }
+}
+
+#[tactic(auto, unfolding(cobol_grammar::specs::data_forms::Clause::packed))]
+fn packed(cursor: &mut Cursor<'_>) -> Result<Position, Unread>
+    ensures { Reads (clauses.packed.reads cursor.old) result cursor.new }
+{
+    if cursor.sees(b"PACKED-DECIMAL") {
+        cursor.key(b"PACKED-DECIMAL")
+    } else {
+        either(cursor, b"COMP-3", b"COMPUTATIONAL-3")
+    }
+}
+
+#[tactic(auto, unfolding(cobol_grammar::specs::data_forms::Clause::usage))]
+fn usage(cursor: &mut Cursor<'_>) -> Result<(Usage, Position), Unread>
+    ensures { Reads (clauses.usage.reads cursor.old) result cursor.new }
+{
+    if sees_binary(cursor) {
+        let at = binary(cursor)?;
+        Ok((Usage::Binary, at))
+    } else if sees_packed(cursor) {
+        let at = packed(cursor)?;
+        Ok((Usage::Packed, at))
+    } else {
+        let at = cursor.key(b"DISPLAY")?;
+        Ok((Usage::Display, at))
+    }
 }
 
 #[tactic(auto, unfolding(cobol_grammar::specs::data_forms::Clause::usage_behind))]
@@ -50,8 +101,16 @@ fn usage_behind(cursor: &mut Cursor<'_>, at: Position) -> Result<Clause, Unread>
     ensures { Reads ((clauses.usage_behind at).reads cursor.old) result cursor.new }
 {
     cursor.maybe(b"IS");
-    cursor.key(b"DISPLAY")?;
-    Ok(Clause::Usage { at })
+    let (usage, _) = usage(cursor)?;
+    Ok(Clause::Usage { at, usage })
+}
+
+#[tactic(auto, unfolding(cobol_grammar::specs::data_forms::Clause::usage_alone))]
+fn usage_alone(cursor: &mut Cursor<'_>) -> Result<Clause, Unread>
+    ensures { Reads (clauses.usage_alone.reads cursor.old) result cursor.new }
+{
+    let (usage, at) = usage(cursor)?;
+    Ok(Clause::Usage { at, usage })
 }
 
 #[tactic(auto, unfolding(cobol_grammar::specs::data_forms::Clause::usage_clause))]
@@ -62,8 +121,7 @@ fn usage_clause(cursor: &mut Cursor<'_>) -> Result<Clause, Unread>
         let at = cursor.key(b"USAGE")?;
         usage_behind(cursor, at)
     } else {
-        let at = cursor.key(b"DISPLAY")?;
-        Ok(Clause::Usage { at })
+        usage_alone(cursor)
     }
 }
 

@@ -42,6 +42,7 @@ entry-keeps n = record {
   kind = record {
     pictured = subst (λ b. PictureSuits b counter_entry.picture) (sym no-group) (omega arith, omega arith);
     signed = tt;
+    used = refl;
     repeated = tt;
     valued = (
       ap (λ b. may_have_value (base counter_entry) b (standing_of (base counter_entry) []).barred) no-group ∙ may-have,

@@ -41,6 +41,17 @@ pub fn number_fault(side: &Side) -> Option<Note>
     }
 }
 
+/// The fault of what takes a result after GIVING, or of COMPUTE.
+#[tactic(auto, unfolding(cobol_grammar::specs::expr_forms::Fault::result_fault))]
+pub fn result_fault(side: &Side) -> Option<Note>
+    ensures { result ≡ faults.result_fault side.now }
+{
+    match side.kind {
+        ValueKind::Number(_) | ValueKind::Edited | ValueKind::Unknown => None,
+        _ => usage(side.leaf),
+    }
+}
+
 /// The fault of the last operand of a sum, where that operand has an operator.
 pub fn last_fault(chain: &Chain) -> Option<Note>
     ensures { result ≡ faults.number_fault chain.now.last }
@@ -102,7 +113,7 @@ fn compared_as(kind: ValueKind) -> ValueKind
     ensures { result ≡ faults.compared_as kind }
 {
     match kind {
-        ValueKind::Group => ValueKind::Text,
+        ValueKind::Edited | ValueKind::Group => ValueKind::Text,
         _ => kind,
     }
 }
@@ -147,6 +158,7 @@ fn item_kind(kind: ItemKind) -> ValueKind
     match kind {
         ItemKind::Number { whole } => ValueKind::Number(whole),
         ItemKind::Text => ValueKind::Text,
+        ItemKind::Edited => ValueKind::Edited,
         ItemKind::Group => ValueKind::Group,
         ItemKind::Condition => ValueKind::Condition,
     }

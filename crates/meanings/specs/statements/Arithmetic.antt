@@ -2,19 +2,23 @@
 use Rattle.std.specs.Prelude.{ℕ, ◌+◌, Bool, true, false, ◌&&◌, ◌||◌, if◌then◌else◌, nat_le, List, [], ◌∷◌, Option, Some, None, option_and_then, Ok}
 use Rattle.cob_num.specs.declared.number.Dec.{Dec}
 use Rattle.cob_num.specs.declared.storing.Stored.{Stored}
-use Rattle.cob_num.specs.Exact.{sum_of, difference_of, product_of, quotient_of}
-use Rattle.cob_tree.specs.declared.picture.Sign.{Sign}
+use Rattle.cob_num.specs.Exact.{decimal, sum_of, difference_of, product_of, quotient_of}
 use Rattle.cob_tree.specs.declared.calc.Calc.{Calc}
 use Rattle.cob_tree.specs.declared.calc.Calc.TheVariants as calcs
 use Rattle.cob_tree.specs.declared.place.Operand.{Operand}
+use Rattle.cob_tree.specs.declared.place.Place.{out-Place}
 use Rattle.cob_tree.specs.declared.calc.Target.{Target}
 use Rattle.cob_store.specs.declared.area.Area.{Area}
 use Rattle.cob_store.specs.declared.area.Form.{Form}
 use Rattle.cob_store.specs.declared.area.Form.TheVariants as forms
+use Rattle.cob_store.specs.declared.area.Storage.{Storage}
 use Rattle.cob_store.specs.declared.spot.Spot.{Spot}
+use Rattle.edit_fields.specs.declared.field.Digits.{Digits}
+use Rattle.edit_fields.specs.Field.{digits_of}
 use Rattle.cob_store.specs.Answer.{Answer, and_then}
+use Rattle.cob_store.specs.Area.{mask_at}
 use Rattle.cob_store.specs.Number.{number_bytes}
-use Rattle.cob_store.specs.Store.{Roots, put_at}
+use Rattle.cob_store.specs.Store.{Roots, put_at, shown_at}
 use Rattle.cob_store.specs.Place.{Memory, memory_of, Value, kept, number_at, operand_value, expr_value, reached}
 use Rattle.meanings.specs.statements.Outcome.{Outcome, done, go_on, then_do}
 
@@ -94,39 +98,76 @@ value_for part now (Over value) = and_then now (λ old. Ok (both (divided part) 
 
 -- the store after a receiver took its value, and whether it had a size error; with one under a SIZE
 -- phrase it stays as it was
-abbrev pub stored_in : Bool → Roots → Spot → Bool → Sign → Stored → Outcome Bool
-stored_in guarded store spot signed sign stored =
+abbrev pub stored_in : Bool → Roots → Spot → Bool → Storage → Stored → Outcome Bool
+stored_in guarded store spot signed storage stored =
     if stored.size_error && guarded
     then done store true
-    else done (put_at store spot (number_bytes signed sign spot.length stored.value))
+    else done (put_at store spot (number_bytes signed storage spot.length stored.value))
     stored.size_error
 
 -- the receiver takes the number; without one that it can hold, it has a size error
-abbrev pub given_by : Bool → Roots → Spot → Bool → Sign → Option Stored → Outcome Bool
-given_by guarded store spot signed sign None = done store true
-given_by guarded store spot signed sign (Some stored) =
-    stored_in guarded store spot signed sign stored
+abbrev pub given_by : Bool → Roots → Spot → Bool → Storage → Option Stored → Outcome Bool
+given_by guarded store spot signed storage None = done store true
+given_by guarded store spot signed storage (Some stored) =
+    stored_in guarded store spot signed storage stored
 
--- the receiver of this form takes the value, rounded or cut; whether it had a size error. Only a
--- number item can take it
-abbrev pub given : Bool → Roots → Spot → Form → Bool → Value → Outcome Bool
-given guarded store spot (forms.Number signed whole part sign) rounded value =
-    given_by guarded store spot signed sign (option_and_then (kept whole part rounded) value)
-given guarded store spot forms.Group rounded value = done store true
-given guarded store spot forms.Text rounded value = done store true
+-- the store after an edited receiver took its value, which counts units of the mask's last decimal
+-- place; with a size error under a SIZE phrase it stays as it was
+abbrev pub edited_in : Bool → Roots → Spot → List ℕ → Stored → Outcome Bool
+edited_in guarded store spot mask stored =
+    if stored.size_error && guarded
+    then done store true
+    else done (shown_at store spot mask (decimal stored.value (digits_of mask).part))
+    stored.size_error
 
--- how many decimal places an item of this form has
-abbrev pub part_of : Form → ℕ
-part_of (forms.Number signed whole part sign) = part
-part_of forms.Group = 0
-part_of forms.Text = 0
+-- the edited receiver takes the number; without one that it can hold, it has a size error
+abbrev pub edited_by : Bool → Roots → Spot → List ℕ → Option Stored → Outcome Bool
+edited_by guarded store spot mask None = done store true
+edited_by guarded store spot mask (Some stored) = edited_in guarded store spot mask stored
+
+-- what an item with so many digits keeps of the value
+abbrev pub kept_in : Digits → Bool → Value → Option Stored
+kept_in digits rounded value = option_and_then (kept digits.whole digits.part rounded) value
+
+-- the edited receiver takes the value as a number of its mask's digits does; each has a mask
+abbrev pub given_edited : Option (List ℕ) → Bool → Roots → Spot → Bool → Value → Outcome Bool
+given_edited None guarded store spot rounded value = done store true
+given_edited (Some mask) guarded store spot rounded value =
+    edited_by guarded store spot mask (kept_in (digits_of mask) rounded value)
+
+-- the receiver of this mask and form takes the value, rounded or cut; whether it had a size error.
+-- Only a number item and an edited one can take it
+abbrev pub given : Option (List ℕ) → Bool → Roots → Spot → Form → Bool → Value → Outcome Bool
+given mask guarded store spot (forms.Number signed whole part storage) rounded value =
+    given_by guarded store spot signed storage (option_and_then (kept whole part rounded) value)
+given mask guarded store spot forms.Edited rounded value =
+    given_edited mask guarded store spot rounded value
+given mask guarded store spot forms.Group rounded value = done store true
+given mask guarded store spot forms.Text rounded value = done store true
+
+-- how many decimal places a mask has
+abbrev pub mask_part : Option (List ℕ) → ℕ
+mask_part None = 0
+mask_part (Some mask) = (digits_of mask).part
+
+-- how many decimal places an item of this mask and form has
+abbrev pub part_of : Option (List ℕ) → Form → ℕ
+part_of mask (forms.Number signed whole part storage) = part
+part_of mask forms.Edited = mask_part mask
+part_of mask forms.Group = 0
+part_of mask forms.Text = 0
+
+-- the mask of the item that a receiver names
+abbrev pub target_mask : List Area → Target → Option (List ℕ)
+target_mask areas target = mask_at areas (out-Place target.place).item
 
 -- one receiver after it is found, worked out for, and stored into; whether it had a size error
 abbrev pub targeted : List Area → Bool → Basis → Roots → Target → Outcome Bool
 targeted areas guarded basis store target =
     go_on store (reached target.place (memory_of areas store)) (λ now place.
-    go_on now (value_for (part_of place.form) (number_at now place.spot place.form) basis)
-    (λ later value. given guarded later place.spot place.form target.rounded value))
+    go_on now (value_for (part_of (target_mask areas target) place.form)
+    (number_at now place.spot place.form) basis) (λ later value.
+    given (target_mask areas target) guarded later place.spot place.form target.rounded value))
 
 -- the receivers in order; whether one had a size error
 abbrev pub all_targeted : List Area → Bool → Basis → Bool → Roots → List Target → Outcome Bool

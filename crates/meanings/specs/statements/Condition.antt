@@ -45,7 +45,7 @@ relation memory left rel right =
 
 -- the item is NUMERIC: a number of the item's form, or digits for text
 abbrev pub is_number : Side → Bool
-is_number (Item signed part sign bytes) = is_some (number_in signed sign bytes)
+is_number (Item signed part storage bytes) = is_some (number_in signed storage bytes)
 is_number side = list_all is_digit (side_bytes side)
 
 -- each byte of it is a letter or a space

@@ -6,7 +6,7 @@ use Rattle.cob_tree.specs.declared.file.Opening.{Opening}
 use Rattle.cob_tree.specs.declared.entry.Entry.{Entry}
 use Rattle.cob_tree.specs.declared.file.FileEntry.{FileEntry}
 use Rattle.cob_tree.specs.declared.place.Operand.{Operand}
-use Rattle.cob_tree.specs.declared.place.Place.{Place}
+use Rattle.cob_tree.specs.declared.place.Place.{Place, out-Place}
 use Rattle.cob_store.specs.declared.area.Area.{Area}
 use Rattle.cob_store.specs.declared.area.Form.{Form}
 use Rattle.cob_store.specs.declared.spot.Spot.{Spot}
@@ -204,7 +204,7 @@ into_by declared file store None = done store tt
 into_by declared file store (Some place) =
     sent_on declared.areas.items (place_sent (memory_of declared.areas.items store)
     (not (is_group (form_of declared.areas.items place))) (item_reached
-    (record_entry declared file))) (reached place) store
+    (record_entry declared file))) (out-Place place).item (reached place) store
 
 -- the record is moved to the item of INTO, if there is one
 abbrev pub into : Declared → ℕ → Roots → Option Place → Ended → Effect
@@ -247,7 +247,8 @@ abbrev pub from_by : Declared → ℕ → Roots → Option Operand → Outcome (
 from_by declared entry store None = done store tt
 from_by declared entry store (Some operand) =
     sent_on declared.areas.items (operand_sent (memory_of declared.areas.items store)
-    (not (is_group (item_form declared.areas.items entry))) operand) (item_reached entry) store
+    (not (is_group (item_form declared.areas.items entry))) operand)
+    entry (item_reached entry) store
 
 -- the bytes of a record, padded to the length of the file's area
 abbrev pub entry_bytes : Declared → ℕ → Roots → Option Area → List ℕ

@@ -5,7 +5,7 @@ use Rattle.cob_num.specs.declared.number.Dec.{Dec}
 use Rattle.cob_num.specs.Exact.{decimal}
 use Rattle.cob_tree.specs.declared.ending.Abend.TheVariants.{BadDigits}
 use Rattle.cob_tree.specs.declared.place.Figure.{Figure}
-use Rattle.cob_tree.specs.declared.picture.Sign.{Sign}
+use Rattle.cob_tree.specs.declared.place.Figure.TheVariants as figures
 use Rattle.cob_tree.specs.declared.number.Number.{Number}
 use Rattle.cob_tree.specs.declared.entry.Entry.{Entry}
 use Rattle.cob_tree.specs.declared.entry.Span.{Span}
@@ -15,12 +15,14 @@ use Rattle.cob_tree.specs.declared.place.Expr.TheOpen.{Operand-F}
 use Rattle.cob_store.specs.declared.area.Area.{Area}
 use Rattle.cob_store.specs.declared.area.Form.{Form}
 use Rattle.cob_store.specs.declared.area.Form.TheVariants as forms
+use Rattle.cob_store.specs.declared.area.Storage.{Storage}
 use Rattle.cob_store.specs.declared.spot.Spot.{Spot}
 use Rattle.cob_store.specs.declared.spot.Reached.{Reached}
 use Rattle.cob_store.specs.Answer.{Answer, and_then, there_or}
+use Rattle.cob_store.specs.Area.{mask_at}
 use Rattle.cob_tree.specs.Digits.{digits_value}
 use Rattle.cob_store.specs.Number.{number_in, number_bytes, padded}
-use Rattle.cob_store.specs.Store.{Roots, spot_bytes, put_at, fitted}
+use Rattle.cob_store.specs.Store.{Roots, edited_bytes, spot_bytes, put_at, fitted}
 use Rattle.cob_store.specs.Place.{Memory, memory_of, Value, kept, literal_value, OfMemory, reached, reached_in}
 use Rattle.cob_store.specs.Store.{number_of}
 use Rattle.cob_store.specs.Starting.{figure_byte}
@@ -61,17 +63,19 @@ pub data Sender : Type 0 where
   Counted : (bytes : List ℕ) → (digits : ℕ) → (number : Option Dec) → Sender
 
 -- a number item as a sender; the number is read where it is asked for
-abbrev pub counted : Bool → Bool → ℕ → ℕ → Sign → List ℕ → Answer Sender
-counted false signed whole part sign bytes = Ok (Counted bytes (whole + part) None)
-counted true signed whole part sign bytes =
-    and_then (number_of (number_in signed sign bytes) part) (λ number.
+abbrev pub counted : Bool → Bool → ℕ → ℕ → Storage → List ℕ → Answer Sender
+counted false signed whole part storage bytes = Ok (Counted bytes (whole + part) None)
+counted true signed whole part storage bytes =
+    and_then (number_of (number_in signed storage bytes) part) (λ number.
     Ok (Counted bytes (whole + part) (Some number)))
 
--- a sender with these bytes, by its form
+-- a sender with these bytes, by its form; an edited item is text
 abbrev pub sent : Bool → Form → List ℕ → Answer Sender
 sent asked forms.Group bytes = Ok (Grouped bytes)
+sent asked forms.Edited bytes = Ok (Spelled bytes)
 sent asked forms.Text bytes = Ok (Spelled bytes)
-sent asked (forms.Number signed whole part sign) bytes = counted asked signed whole part sign bytes
+sent asked (forms.Number signed whole part storage) bytes =
+    counted asked signed whole part storage bytes
 
 -- a sender that is a place
 abbrev pub place_sent : Memory → Bool → OfMemory Reached → Answer Sender
@@ -92,10 +96,10 @@ operand_sent memory asked operand =
 
 -- the bytes of the number as an item with that picture takes it: aligned, high and low digits cut,
 -- the sign dropped where unsigned
-abbrev pub number_received : Bool → ℕ → ℕ → Sign → ℕ → Dec → Answer (List ℕ)
-number_received signed whole part sign size number =
+abbrev pub number_received : Bool → ℕ → ℕ → Storage → ℕ → Dec → Answer (List ℕ)
+number_received signed whole part storage size number =
     and_then (there_or BadDigits (kept whole part false number)) (λ stored.
-    Ok (number_bytes signed sign size stored.value))
+    Ok (number_bytes signed storage size stored.value))
 
 -- the last 18 bytes as an unsigned integer
 abbrev pub text_number : List ℕ → Answer Dec
@@ -133,24 +137,49 @@ abbrev pub sender_bytes : ℕ → Sender → List ℕ
 sender_bytes size (Counted bytes digits number) = fitted size bytes
 sender_bytes size sender = sender_text size sender
 
--- the bytes that a receiver of that form and length is given; to and from a group they are moved as
--- they are
-abbrev pub received : Form → ℕ → Sender → Answer (List ℕ)
-received forms.Group size sender = Ok (sender_bytes size sender)
-received forms.Text size sender = Ok (sender_text size sender)
-received (forms.Number signed whole part sign) size (Grouped bytes) = Ok (fitted size bytes)
-received (forms.Number signed whole part sign) size sender =
-    and_then (sender_number sender) (number_received signed whole part sign size)
+-- the bytes of the number as an item with that mask shows it
+abbrev pub number_edited : List ℕ → ℕ → Answer Dec → Answer (List ℕ)
+number_edited mask size number =
+    and_then number (λ number. Ok (edited_bytes mask size number))
+
+-- ZERO is edited as a number; any other figure fills the item
+abbrev pub figure_edited : List ℕ → ℕ → Figure → Answer (List ℕ)
+figure_edited mask size figures.Zero = number_edited mask size (none_is_bad (decimal (pos 0) 0))
+figure_edited mask size figure = Ok (replicate size (figure_byte figure))
+
+-- the bytes that an edited item is given: those of a group as they are, those of a figure, and of
+-- anything else its number, edited
+abbrev pub sender_edited : List ℕ → ℕ → Sender → Answer (List ℕ)
+sender_edited mask size (Grouped bytes) = Ok (fitted size bytes)
+sender_edited mask size (Figured figure) = figure_edited mask size figure
+sender_edited mask size sender = number_edited mask size (sender_number sender)
+
+-- an edited item has a mask; without one it would be text
+abbrev pub edited_received : Option (List ℕ) → ℕ → Sender → Answer (List ℕ)
+edited_received None size sender = Ok (sender_text size sender)
+edited_received (Some mask) size sender = sender_edited mask size sender
+
+-- the bytes that a receiver of that mask, form and length is given; to and from a group they are
+-- moved as they are
+abbrev pub received : Option (List ℕ) → Form → ℕ → Sender → Answer (List ℕ)
+received mask forms.Group size sender = Ok (sender_bytes size sender)
+received mask forms.Edited size sender = edited_received mask size sender
+received mask forms.Text size sender = Ok (sender_text size sender)
+received mask (forms.Number signed whole part storage) size (Grouped bytes) =
+    Ok (fitted size bytes)
+received mask (forms.Number signed whole part storage) size sender =
+    and_then (sender_number sender) (number_received signed whole part storage size)
 
 -- these bytes are stored at the spot
 abbrev pub put_answer : Roots → Spot → Answer (List ℕ) → Outcome (Unit {0})
 put_answer store spot bytes = go_on store bytes (λ now given. done (put_at now spot given) tt)
 
--- one receiver is found, and takes the sender
-abbrev pub receive : List Area → Sender → Roots → OfMemory Reached → Outcome (Unit {0})
-receive areas sender store place =
+-- one receiver, a place of that item, is found, and takes the sender
+abbrev pub receive : List Area → Sender → Roots → ℕ → OfMemory Reached → Outcome (Unit {0})
+receive areas sender store item place =
     go_on store (place (memory_of areas store)) (λ now place.
-    put_answer now place.spot (received place.form place.spot.length sender))
+    put_answer now place.spot
+    (received (mask_at areas item) place.form place.spot.length sender))
 
 -- whether all these are groups
 abbrev pub all_groups : List Area → List Place → Bool
@@ -160,11 +189,13 @@ all_groups areas = list_all (λ place. is_group (form_of areas place))
 abbrev pub moved : List Area → Operand → List Place → Roots → Outcome (Unit {0})
 moved areas from to store =
     go_on store (operand_sent (memory_of areas store) (not (all_groups areas to)) from)
-    (λ now sender. each (λ store place. receive areas sender store (reached place)) now to)
+    (λ now sender. each (λ store place.
+    receive areas sender store (out-Place place).item (reached place)) now to)
 
--- the store after a sender was moved to a place
-abbrev pub sent_on : List Area → Answer Sender → OfMemory Reached → Roots → Outcome (Unit {0})
-sent_on areas sender to store = go_on store sender (λ now read. receive areas read now to)
+-- the store after a sender was moved to a place of that item
+abbrev pub sent_on : List Area → Answer Sender → ℕ → OfMemory Reached → Roots → Outcome (Unit {0})
+sent_on areas sender item to store =
+    go_on store sender (λ now read. receive areas read now item to)
 
 -- ---- SET
 

@@ -7,7 +7,6 @@ use Rattle.cob_num.specs.Exact.{decimal}
 use Rattle.cob_tree.specs.declared.ending.Abend.TheVariants.{OutOfRange}
 use Rattle.cob_tree.specs.declared.place.Figure.{Figure}
 use Rattle.cob_tree.specs.declared.place.Figure.TheVariants as figures
-use Rattle.cob_tree.specs.declared.picture.Sign.{Sign}
 use Rattle.cob_tree.specs.declared.number.Number.{Number}
 use Rattle.cob_tree.specs.declared.place.Expr.{Expr, out-Expr}
 use Rattle.cob_tree.specs.declared.place.Operand.{Operand, out-Operand}
@@ -15,6 +14,7 @@ use Rattle.cob_tree.specs.declared.place.Place.{Place}
 use Rattle.cob_tree.specs.declared.place.Expr.TheOpen.{Expr-F, Operand-F}
 use Rattle.cob_store.specs.declared.area.Form.{Form}
 use Rattle.cob_store.specs.declared.area.Form.TheVariants as forms
+use Rattle.cob_store.specs.declared.area.Storage.{Storage}
 use Rattle.cob_store.specs.Answer.{Answer, and_then, there_or}
 use Rattle.cob_store.specs.Number.{number_in}
 use Rattle.cob_store.specs.Store.{spot_bytes}
@@ -29,7 +29,7 @@ use Rattle.std.specs.Ordering.{ordering_reverse}
 pub data Side : Type 0 where
   Amount : Dec → Side
   Literal : Number → Side
-  Item : (signed : Bool) → (part : ℕ) → (sign : Sign) → (bytes : List ℕ) → Side
+  Item : (signed : Bool) → (part : ℕ) → (storage : Storage) → (bytes : List ℕ) → Side
   Nought : Side
   Bytes : List ℕ → Side
   Filler : (byte : ℕ) → Side
@@ -40,10 +40,11 @@ valued = there_or OutOfRange
 
 -- ---- reading
 
--- an item of this form with these bytes
+-- an item of this form with these bytes; an edited one is text
 abbrev pub item_side : Form → List ℕ → Side
-item_side (forms.Number signed whole part sign) bytes = Item signed part sign bytes
+item_side (forms.Number signed whole part storage) bytes = Item signed part storage bytes
 item_side forms.Group bytes = Bytes bytes
+item_side forms.Edited bytes = Bytes bytes
 item_side forms.Text bytes = Bytes bytes
 
 -- a place as it is read
@@ -88,7 +89,7 @@ is_numeric _ = true
 abbrev pub side_number : Side → Answer Dec
 side_number (Amount number) = Ok number
 side_number (Literal number) = valued (literal_value number)
-side_number (Item signed part sign bytes) = number_of (number_in signed sign bytes) part
+side_number (Item signed part storage bytes) = number_of (number_in signed storage bytes) part
 side_number Nought = valued (decimal (pos 0) 0)
 side_number _ = Err OutOfRange
 
@@ -98,10 +99,11 @@ filler_of Nought = Some 48
 filler_of (Filler byte) = Some byte
 filler_of _ = None
 
--- the bytes of a side; a literal has its digits here, though beside text it is as it prints
+-- the bytes of a side, those of an item as they are stored; a literal has its digits here, though
+-- beside text it is as it prints
 abbrev pub side_bytes : Side → List ℕ
 side_bytes (Literal number) = number.digits
-side_bytes (Item signed part sign bytes) = bytes
+side_bytes (Item signed part storage bytes) = bytes
 side_bytes (Bytes bytes) = bytes
 side_bytes _ = []
 

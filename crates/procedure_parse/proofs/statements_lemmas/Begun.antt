@@ -34,13 +34,13 @@ perform_read parts level scope p read e =
     goes_on level scope ((perform_head parts level.enter).reads p) ∙ ap (from_begun level scope) e
 
 -- and so where a statement is read that holds others and is neither arithmetic nor a choice
-pub holding_read : {Side Known : Type 0} (parts : Parts Side Known) (level : Level)
+pub held_read : {Side Known : Type 0} (parts : Parts Side Known) (level : Level)
     (scope : Scope) (p : Input) (read : Outcome Begun) →
     is_next begins_arithmetic p ≡ false → is_next begins_choice p ≡ false →
     (perform_begun parts level.enter).reads p ≡ read →
     (holding_stmt parts level scope).reads p ≡ from_begun level scope read
 unfolding holding_stmt
-holding_read parts level scope p read no_work no_choice e =
+held_read parts level scope p read no_work no_choice e =
     ap (λ (is_work : Bool). (chosen is_work (arithmetic_stmt parts level scope)
     (where_next begins_choice (choice_stmt parts level scope)
     (perform_stmt parts level scope))).reads p) no_work

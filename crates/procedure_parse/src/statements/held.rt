@@ -647,7 +647,7 @@ fn perform_from<P: Parts>(
 // PERFORM is read by two calls here, without one between: Rattle's compiler inlines the first calls
 // of a function, up to a size, and the frame of a head would then be kept with them.
 #[cycle(stmt)]
-#[tactic(auto, using(crate::proofs::statements_lemmas::Begun::holding_read), unfolding(cobol_grammar::specs::stmt_forms::Stmt::holding_stmt))]
+#[tactic(auto, using(crate::proofs::statements_lemmas::Begun::held_read), unfolding(cobol_grammar::specs::stmt_forms::Stmt::holding_stmt))]
 fn holding_stmt<P: Parts>(
     parts: &P,
     cursor: &mut Cursor<'_>,

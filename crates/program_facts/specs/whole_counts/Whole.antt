@@ -22,6 +22,7 @@ use Rattle.control_flow_theory.specs.language.All.{all, all_if}
 abbrev pub is_whole_picture : Option Picture → Bool
 is_whole_picture None = false
 is_whole_picture (Some (pictures.Number signed whole part)) = part == 0 && nat_le whole 18
+is_whole_picture (Some (pictures.Edited mask)) = false
 is_whole_picture (Some (pictures.Letters count)) = false
 is_whole_picture (Some (pictures.Any count)) = false
 

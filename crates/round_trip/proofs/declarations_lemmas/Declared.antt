@@ -3,6 +3,7 @@ use Rattle.std.proofs.Common.{◌≡◌, ℕ, ◌+◌, true, List, [], ◌∷◌
 use Rattle.std.specs.List.{fold}
 use Rattle.std.proofs.lemmas.Bool.{and_parts}
 use Rattle.cob_tree.specs.declared.entry.Entry.{Entry}
+use Rattle.cob_tree.specs.declared.picture.Usage.{Usage}
 use Rattle.cob_tree.specs.declared.program.Program.{Program}
 use Rattle.cobol_grammar.specs.declared.data_forms.draft.Divisions.{Divisions}
 use Rattle.cobol_grammar.specs.declared.data_forms.draft.EntryDraft.{EntryDraft}
@@ -15,14 +16,16 @@ use Rattle.grammar_laws.specs.well_scoped.named_data.Drafts.{entry_literal, entr
 use Rattle.cob_store.specs.sizes.Size.{sized}
 use Rattle.declaration_checks.specs.declared.declaring.Declared.{Declared}
 use Rattle.declaration_checks.specs.declared.judging.Judged.{Judged}
-use Rattle.declaration_checks.specs.Declaring.{section_bases, record_bases, bases_of, settle, settle_all, settle_records, entries_of, judge, judge_all, judge_records, files_fault, fault_of}
+use Rattle.declaration_checks.specs.Declaring.{section_bases, record_bases, bases_of, settle, settle_all, settle_records, entries_of, usages_in, judge, judge_all, judge_records, files_fault, fault_of}
 use Rattle.declaration_checks.specs.File.{file_number, file_of, selects_fault, fds_fault}
+use Rattle.declaration_checks.specs.Usage.{section_usages, record_usages, own_usages}
+use Rattle.grammar_laws.proofs.whole_counts_lemmas.entry_bounds_lemmas.Usages.{Handed, usages-handed}
 use Rattle.round_trip.specs.spelling.data_spelling.Sections.{Fd}
 use Rattle.round_trip.specs.declarations.printed_declarations.Rules.{base, bases, sizes, EntriesKeep}
 use Rattle.round_trip.specs.declarations.printed_declarations.FileRules.{AreDistinct, AreDescribed, KeepsRules}
 use Rattle.round_trip.specs.declarations.Laws.{DeclaredProgramsKeepRules}
 use Rattle.round_trip.proofs.declarations_lemmas.Entries.{none_of}
-use Rattle.round_trip.proofs.declarations_lemmas.Sections.{Placed, placed_base, section, flat_fds, all-flat, settled_from, settled-append, drafts_of, settles, AllFine, faults_from, judges, all-fine, same-bases, stand-in, AreLiteral, all-keep}
+use Rattle.round_trip.proofs.declarations_lemmas.Sections.{Placed, placed_base, section, flat_fds, all-flat, all-owns, AllHanded, all-handed, settled_from, settled-append, drafts_of, settles, AllFine, faults_from, judges, all-fine, same-bases, stand-in, AreLiteral, all-keep}
 use Rattle.round_trip.proofs.declarations_lemmas.Groups.{AllNamed, AllSelected, all-named, all-selected, distinct, Grouped, grouped, apart-fds, all-there, described, all-apart}
 
 -- ---- drafts one behind the other
@@ -73,15 +76,16 @@ literal-fds selects at (fd ∷ fds) e =
 
 -- ---- all of it
 
-drop-none : (entries : List Entry) → drop 0 entries ≡ entries
+drop-none : {A : Type 0} (entries : List A) → drop 0 entries ≡ entries
 drop-none [] = refl
 drop-none (entry ∷ entries) = refl
 
 -- of drafts with these bases, sizes and faults
-module _ (program : Program) (list : List Entry) (long : List ℕ) (selects : List SelectDraft) (fds : List FdDraft) (stored : List EntryDraft) (fault : Option Note)
+module _ (program : Program) (list : List Entry) (long : List ℕ) (own used : List (Option Usage)) (handed : Handed list own used) (selects : List SelectDraft) (fds : List FdDraft) (stored : List EntryDraft) (fault : Option Note)
     (literal : data_literal (record { fds = fds; storage = stored }) ≡ true) (based : list ≡ record_bases selects 0 fds ++ section_bases None stored)
-    (settles_all : program.entries ≡ settle_all list (fold (settle_records list) [] fds) stored) (sized_so : long ≡ sizes program)
-    (judged_none : (judge_all list long (fold (judge_records list long) (record { at = 0; fault = fault }) fds) stored).fault ≡ None)
+    (owned : own ≡ record_usages fds ++ section_usages stored)
+    (settles_all : program.entries ≡ settle_all list used (fold (settle_records list used) [] fds) stored) (sized_so : long ≡ sizes program)
+    (judged_none : (judge_all list long used (fold (judge_records list long used) (record { at = 0; fault = fault }) fds) stored).fault ≡ None)
     (files : program.files ≡ map file_of selects) where
   abbrev flat : List Placed
   flat = flat_fds selects 0 fds ++ section None stored
@@ -89,53 +93,61 @@ module _ (program : Program) (list : List Entry) (long : List ℕ) (selects : Li
   from-start : drop 0 list ≡ map placed_base (flat ++ [])
   from-start = drop-none list ∙ based ∙ all-flat selects fds stored ∙ ap (map placed_base) (sym (append-nil flat))
 
-  entries-flat : program.entries ≡ settled_from list 0 flat
-  entries-flat = settles_all ∙ fold-fds (settle list) selects fds stored 0 [] ∙ settles list long flat [] [] from-start
+  entries-flat : program.entries ≡ settled_from list used 0 flat
+  entries-flat = settles_all ∙ fold-fds (settle list used) selects fds stored 0 [] ∙ settles list long used flat [] [] from-start
 
-  no-faults : faults_from list long 0 fault flat ≡ None
+  no-faults : faults_from list long used 0 fault flat ≡ None
   no-faults =
-      sym (ap (λ (judged : Judged). judged.fault) (fold-fds (judge list long) selects fds stored 0 (record { at = 0; fault = fault }) ∙ judges list long flat [] 0 fault from-start)) ∙ judged_none
+      sym (ap (λ (judged : Judged). judged.fault) (fold-fds (judge list long used) selects fds stored 0 (record { at = 0; fault = fault }) ∙ judges list long used flat [] 0 fault from-start)) ∙ judged_none
 
-  pub fine : (fault ≡ None) × AllFine list long 0 flat
-  fine = all-fine list long flat 0 fault no-faults
+  pub fine : (fault ≡ None) × AllFine list long used 0 flat
+  fine = all-fine list long used flat 0 fault no-faults
+
+  all-used : AllHanded list used 0 flat
+  all-used =
+      all-handed list own used handed flat 0 (from-start ∙ ap (map placed_base) (append-nil flat))
+      (drop-none own ∙ owned ∙ all-owns selects fds stored)
 
   same-list : bases program ≡ list
-  same-list = ap (map base) entries-flat ∙ same-bases list long flat 0 fine.1 ∙ sym (all-flat selects fds stored) ∙ sym based
+  same-list = ap (map base) entries-flat ∙ same-bases list long used flat 0 fine.1 ∙ sym (all-flat selects fds stored) ∙ sym based
 
   literals : (all (map fd_literal fds) ≡ true) × (entries_literal stored ≡ true)
   literals = and_parts (all (map fd_literal fds)) (entries_literal stored) literal
 
-  fine-program : AllFine (bases program) (sizes program) 0 flat
-  fine-program = subst (λ entries. AllFine entries (sizes program) 0 flat) (sym same-list) (subst (λ lengths. AllFine list lengths 0 flat) sized_so fine.1)
+  fine-program : AllFine (bases program) (sizes program) used 0 flat
+  fine-program = subst (λ entries. AllFine entries (sizes program) used 0 flat) (sym same-list) (subst (λ lengths. AllFine list lengths used 0 flat) sized_so fine.1)
+
+  used-program : AllHanded (bases program) used 0 flat
+  used-program = subst (λ entries. AllHanded entries used 0 flat) (sym same-list) all-used
 
   all-literal : AreLiteral flat
   all-literal = literal-append (flat_fds selects 0 fds) (section None stored) (literal-fds selects 0 fds literals.0) (literal-section None stored literals.1)
 
   all-kept : EntriesKeep program 0 program.entries
   all-kept =
-      subst (EntriesKeep program 0) (ap (λ entries. settled_from entries 0 flat) same-list ∙ sym entries-flat)
-      (all-keep program flat 0 all-literal fine-program)
+      subst (EntriesKeep program 0) (ap (λ entries. settled_from entries used 0 flat) same-list ∙ sym entries-flat)
+      (all-keep program used flat 0 all-literal used-program fine-program)
 
-  group : (selected : AllSelected selects [] fds) → Grouped program list selects 0 0 fds
-  group selected = grouped program list long selects [] fds 0 0 files selected literals.0
+  group : (selected : AllSelected selects [] fds) → Grouped program list used selects 0 0 fds
+  group selected = grouped program list long used selects [] fds 0 0 files selected literals.0
 
   abbrev held : List Entry
-  held = settled_from list (0 + length (flat_fds selects 0 fds)) (section None stored)
+  held = settled_from list used (0 + length (flat_fds selects 0 fds)) (section None stored)
 
   pub keeps-rules : AllNamed fds [] selects → AllSelected selects [] fds → (described : List Fd) × (storage : List Entry) × KeepsRules program described storage
   keeps-rules named selected = by (group selected)
     where
-      by : Grouped program list selects 0 0 fds → (described : List Fd) × (storage : List Entry) × KeepsRules program described storage
+      by : Grouped program list used selects 0 0 fds → (described : List Fd) × (storage : List Entry) × KeepsRules program described storage
       by G =
           let apart = apart-fds program selects [] G.fds [] fds tt G.titled selected in (
             G.fds,
             held,
             record {
               sorted = record {
-                is = entries-flat ∙ settled-append list 0 (flat_fds selects 0 fds) (section None stored) ∙ ap (λ front. front ++ held) (sym G.holds);
+                is = entries-flat ∙ settled-append list used 0 (flat_fds selects 0 fds) (section None stored) ∙ ap (λ front. front ++ held) (sym G.holds);
                 filed = G.filed;
                 apart = all-apart program G.fds apart;
-                stored = stand-in list long None stored (0 + length (flat_fds selects 0 fds));
+                stored = stand-in list long used None stored (0 + length (flat_fds selects 0 fds));
               };
               distinct = subst (AreDistinct []) (sym files) (distinct fds [] selects named);
               there = all-there program G.fds fds G.titled;
@@ -146,14 +158,22 @@ module _ (program : Program) (list : List Entry) (long : List ℕ) (selects : Li
           )
 
 module _ (program : Program) (draft : Divisions) (literal : data_literal draft.data_part ≡ true) (files : program.files ≡ map file_of draft.selects) (entries : program.entries ≡ entries_of draft) (none : fault_of draft ≡ None) where
+  abbrev its_bases : List Entry
+  its_bases = bases_of draft
+
+  abbrev its_owns : List (Option Usage)
+  its_owns = own_usages draft.data_part
+
   no-files-fault : files_fault draft ≡ None
   no-files-fault =
-      (fine program (bases_of draft) (sized (entries_of draft)).sizes draft.selects draft.data_part.fds draft.data_part.storage (files_fault draft) literal refl entries (sym (ap (λ list. (sized list).sizes) entries)) none files).0
+      (fine program its_bases (sized (entries_of draft)).sizes its_owns (usages_in its_bases draft) (usages-handed its_bases its_owns) draft.selects draft.data_part.fds draft.data_part.storage (files_fault draft)
+      literal refl refl entries (sym (ap (λ list. (sized list).sizes) entries)) none files).0
 
   pub rules-kept : (described : List Fd) × (storage : List Entry) × KeepsRules program described storage
   rules-kept =
       let parts = none_of (selects_fault draft.data_part.fds draft.selects) (fds_fault draft.selects draft.data_part.fds) no-files-fault in
-      keeps-rules program (bases_of draft) (sized (entries_of draft)).sizes draft.selects draft.data_part.fds draft.data_part.storage (files_fault draft) literal refl entries (sym (ap (λ list. (sized list).sizes) entries)) none files
+      keeps-rules program its_bases (sized (entries_of draft)).sizes its_owns (usages_in its_bases draft) (usages-handed its_bases its_owns) draft.selects draft.data_part.fds draft.data_part.storage (files_fault draft)
+      literal refl refl entries (sym (ap (λ list. (sized list).sizes) entries)) none files
       (all-named draft.data_part.fds None [] draft.selects parts.0).1 (all-selected draft.selects None [] draft.data_part.fds parts.1).1
 
 pub declared_programs_keep_rules : DeclaredProgramsKeepRules

@@ -91,7 +91,7 @@ pub pictured : (group : Bool) (at : Position) (clause : Option Clause) → pictu
 pictured true at (Some (clauses.Picture clause_at text text_at)) e = absurd cc
 pictured true at None e = (refl, refl)
 pictured true at (Some (clauses.Redefines clause_at name name_at)) e = (refl, refl)
-pictured true at (Some (clauses.Usage clause_at)) e = (refl, refl)
+pictured true at (Some (clauses.Usage clause_at said_usage)) e = (refl, refl)
 pictured true at (Some (clauses.Sign clause_at leading separate)) e = (refl, refl)
 pictured true at (Some (clauses.Occurs clause_at count count_at)) e = (refl, refl)
 pictured true at (Some (clauses.Value clause_at spans)) e = (refl, refl)
@@ -99,7 +99,7 @@ pictured false at (Some (clauses.Picture clause_at text text_at)) e =
     (suits-item (picture_by text) (held (is_some (picture_by text)) _ text_at e) (λ picture is. text-writable text picture is), refl)
 pictured false at None e = absurd cc
 pictured false at (Some (clauses.Redefines clause_at name name_at)) e = absurd cc
-pictured false at (Some (clauses.Usage clause_at)) e = absurd cc
+pictured false at (Some (clauses.Usage clause_at said_usage)) e = absurd cc
 pictured false at (Some (clauses.Sign clause_at leading separate)) e = absurd cc
 pictured false at (Some (clauses.Occurs clause_at count count_at)) e = absurd cc
 pictured false at (Some (clauses.Value clause_at spans)) e = absurd cc
@@ -118,7 +118,7 @@ signed group o (Some (clauses.Sign at leading separate)) e = signed-by group lea
 signed group o None e = tt
 signed group o (Some (clauses.Redefines at name name_at)) e = tt
 signed group o (Some (clauses.Picture at text text_at)) e = tt
-signed group o (Some (clauses.Usage at)) e = tt
+signed group o (Some (clauses.Usage at said_usage)) e = tt
 signed group o (Some (clauses.Occurs at count count_at)) e = tt
 signed group o (Some (clauses.Value at spans)) e = tt
 
@@ -139,7 +139,7 @@ repeated level dims (Some (clauses.Occurs at digits count_at)) e =
 repeated level dims None e = tt
 repeated level dims (Some (clauses.Redefines at name name_at)) e = tt
 repeated level dims (Some (clauses.Picture at text text_at)) e = tt
-repeated level dims (Some (clauses.Usage at)) e = tt
+repeated level dims (Some (clauses.Usage at said_usage)) e = tt
 repeated level dims (Some (clauses.Sign at leading separate)) e = tt
 repeated level dims (Some (clauses.Value at spans)) e = tt
 
@@ -162,7 +162,7 @@ valued entry target barred (Some (clauses.Value at spans)) e =
 valued entry target barred None e = tt
 valued entry target barred (Some (clauses.Redefines at name name_at)) e = tt
 valued entry target barred (Some (clauses.Picture at text text_at)) e = tt
-valued entry target barred (Some (clauses.Usage at)) e = tt
+valued entry target barred (Some (clauses.Usage at said_usage)) e = tt
 valued entry target barred (Some (clauses.Sign at leading separate)) e = tt
 valued entry target barred (Some (clauses.Occurs at count count_at)) e = tt
 
@@ -192,7 +192,7 @@ found bases sizes at entry (Some (clauses.Redefines clause_at name name_at)) e =
     go (Some number) is e = (number, (is, held (is_short sizes at entry number) BadRedefines name_at e))
 found bases sizes at entry None e = tt
 found bases sizes at entry (Some (clauses.Picture clause_at text text_at)) e = tt
-found bases sizes at entry (Some (clauses.Usage clause_at)) e = tt
+found bases sizes at entry (Some (clauses.Usage clause_at said_usage)) e = tt
 found bases sizes at entry (Some (clauses.Sign clause_at leading separate)) e = tt
 found bases sizes at entry (Some (clauses.Occurs clause_at count count_at)) e = tt
 found bases sizes at entry (Some (clauses.Value clause_at spans)) e = tt

@@ -8,6 +8,7 @@ use Rattle.std.proofs.lemmas.Bool.Decides.{nat_tests}
 use Rattle.std.proofs.lemmas.Slice.Eq.{bytes_eq-Decides}
 use Rattle.cob_tree.specs.declared.entry.Entry.{Entry}
 use Rattle.cob_tree.specs.declared.file.FileEntry.{FileEntry}
+use Rattle.cob_tree.specs.declared.picture.Usage.{Usage as ItemUsage}
 use Rattle.cob_tree.specs.declared.program.Program.{Program}
 use Rattle.cobol_grammar.specs.declared.data_forms.draft.EntryDraft.{EntryDraft}
 use Rattle.cobol_grammar.specs.declared.data_forms.draft.FdDraft.{FdDraft}
@@ -125,31 +126,31 @@ Titled program (fd ∷ fds) (draft ∷ drafts) =
     ((file : FileEntry) × (slice_get program.files fd.number ≡ Some file) × (file.name ≡ draft.name)) × Titled program fds drafts
 Titled program _ _ = ⊥
 
-pub record Grouped (program : Program) (list : List Entry) (selects : List SelectDraft) (at number : ℕ) (drafts : List FdDraft) : Type 0 where
+pub record Grouped (program : Program) (list : List Entry) (used : List (Option ItemUsage)) (selects : List SelectDraft) (at number : ℕ) (drafts : List FdDraft) : Type 0 where
   pub fds : List Fd
-  pub holds : all_records fds ≡ settled_from list at (flat_fds selects number drafts)
+  pub holds : all_records fds ≡ settled_from list used at (flat_fds selects number drafts)
   pub filed : AreFiled fds
   pub titled : Titled program fds drafts
 
-one-group : (list : List Entry) (long : List ℕ) (at file : ℕ) (drafts : List EntryDraft) → is_filled drafts ≡ true →
-    (fd : Fd) × (fd.number ≡ file) × (records fd ≡ settled_from list at (section (Some file) drafts)) × StandIn (Some fd.number) (records fd)
-one-group list long at file [] e = absurd cc
-one-group list long at file (draft ∷ drafts) e =
-    (record { number = file; first = settled list at draft (base_of (Some file) draft); more = settled_from list (at + 1) (section (Some file) drafts) }, refl, refl, stand-in list long (Some file) (draft ∷ drafts) at)
+one-group : (list : List Entry) (long : List ℕ) (used : List (Option ItemUsage)) (at file : ℕ) (drafts : List EntryDraft) → is_filled drafts ≡ true →
+    (fd : Fd) × (fd.number ≡ file) × (records fd ≡ settled_from list used at (section (Some file) drafts)) × StandIn (Some fd.number) (records fd)
+one-group list long used at file [] e = absurd cc
+one-group list long used at file (draft ∷ drafts) e =
+    (record { number = file; first = settled list used at draft (base_of (Some file) draft); more = settled_from list used (at + 1) (section (Some file) drafts) }, refl, refl, stand-in list long used (Some file) (draft ∷ drafts) at)
 
-pub grouped : (program : Program) (list : List Entry) (long : List ℕ) (selects : List SelectDraft) (before drafts : List FdDraft) (at number : ℕ) → program.files ≡ map file_of selects →
-    AllSelected selects before drafts → all (map fd_literal drafts) ≡ true → Grouped program list selects at number drafts
-grouped program list long selects before [] at number files s l = record { fds = []; holds = refl; filed = tt; titled = tt }
-grouped program list long selects before (draft ∷ drafts) at number files s l =
+pub grouped : (program : Program) (list : List Entry) (long : List ℕ) (used : List (Option ItemUsage)) (selects : List SelectDraft) (before drafts : List FdDraft) (at number : ℕ) → program.files ≡ map file_of selects →
+    AllSelected selects before drafts → all (map fd_literal drafts) ≡ true → Grouped program list used selects at number drafts
+grouped program list long used selects before [] at number files s l = record { fds = []; holds = refl; filed = tt; titled = tt }
+grouped program list long used selects before (draft ∷ drafts) at number files s l =
     let literal = and_parts (fd_literal draft) (all (map fd_literal drafts)) l in
     let file = file_number selects draft number in
     let placed = section (Some file) draft.entries in
-    let g = one-group list long at file draft.entries (and_parts (is_filled draft.entries) (entries_literal draft.entries) literal.0).0 in
-    let rest = grouped program list long selects (before ++ draft ∷ []) drafts (at + length placed) (number + 1) files s.1 literal.1 in
+    let g = one-group list long used at file draft.entries (and_parts (is_filled draft.entries) (entries_literal draft.entries) literal.0).0 in
+    let rest = grouped program list long used selects (before ++ draft ∷ []) drafts (at + length placed) (number + 1) files s.1 literal.1 in
     let n = numbered selects draft number s.0.1 in
     record {
       fds = g.0 ∷ rest.fds;
-      holds = ap (λ front. front ++ all_records rest.fds) g.2 ∙ ap (λ back. settled_from list at placed ++ back) rest.holds ∙ sym (settled-append list at placed (flat_fds selects (number + 1) drafts));
+      holds = ap (λ front. front ++ all_records rest.fds) g.2 ∙ ap (λ back. settled_from list used at placed ++ back) rest.holds ∙ sym (settled-append list used at placed (flat_fds selects (number + 1) drafts));
       filed = (g.3, rest.filed);
       titled = ((n.0, ap (λ k. slice_get program.files k) g.1 ∙ ap (λ files. slice_get files file) files ∙ n.1, n.2), rest.titled);
     }

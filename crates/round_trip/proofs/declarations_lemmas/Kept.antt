@@ -5,6 +5,8 @@ use Rattle.std.specs.List.{find}
 use Rattle.std.specs.Option.{is_some}
 use Rattle.std.proofs.lemmas.Bool.{and_parts}
 use Rattle.cob_tree.specs.declared.entry.Entry.{Entry}
+use Rattle.cob_tree.specs.declared.picture.Usage.{Usage}
+use Rattle.cob_tree.specs.declared.picture.Usage.TheVariants.{Display}
 use Rattle.cob_tree.specs.declared.program.Program.{Program}
 use Rattle.cobol_grammar.specs.declared.data_forms.draft.Clause.{Clause}
 use Rattle.cobol_grammar.specs.declared.data_forms.draft.Clause.TheVariants as clauses
@@ -16,16 +18,19 @@ use Rattle.parser_combinators.specs.declared.note.Position.{Position}
 use Rattle.control_flow_theory.specs.language.All.{all}
 use Rattle.program_facts.specs.well_scoped.Part.{is_filled, if_any}
 use Rattle.grammar_laws.specs.well_scoped.named_data.Drafts.{clause_literal, entry_literal, span_literal}
+use Rattle.grammar_laws.specs.whole_counts.entry_bounds.Bounds.{usage_suits}
+use Rattle.grammar_laws.proofs.whole_counts_lemmas.entry_bounds_lemmas.Usages.{usage-suits}
 use Rattle.unparser.specs.Place.{entry_name, item_name}
 use Rattle.declaration_checks.specs.declared.clause.ClauseKind.TheVariants as kinds
 use Rattle.declaration_checks.specs.Base.{base_of, condition_of, item_of, level_of, number_of, spans_in, spans_of, span_of, redefines_of as marks_of}
 use Rattle.declaration_checks.specs.Clause.{duplicate_fault, other_fault, is_of, clause_of}
-use Rattle.declaration_checks.specs.Declaring.{settled}
+use Rattle.declaration_checks.specs.Declaring.{settled, usage_or, usage_of}
 use Rattle.declaration_checks.specs.Fault.{fault_at}
 use Rattle.declaration_checks.specs.Item.{level_stands, picture_fault, sign_fault, occurs_fault}
 use Rattle.declaration_checks.specs.Redefining.{redefined_by, redefined_in, redefines_fault, last_alike}
 use Rattle.declaration_checks.specs.Rule.{target_of, fits_at, fits_fault, condition_fault, clauses_fault, item_fault, kind_fault, entry_fault}
 use Rattle.declaration_checks.specs.Standing.{before, behind, holder_of, standing_of}
+use Rattle.declaration_checks.specs.Usage.{usage_by, entry_usage, found_usage, usage_above, own_usage, draft_usage, usage_fault}
 use Rattle.declaration_checks.specs.Value.{missing_by, missing_fault, value_fault}
 use Rattle.round_trip.specs.spelling.data_spelling.Printable.{IfAny}
 use Rattle.round_trip.specs.declarations.printed_declarations.Rules.{marked, base, bases, sizes, PictureSuits, SignSuits, Repeats, Redefines, ItemKeeps, FitAt, FitHolder, IsFilled, ConditionKeeps, KindKeeps, EntryKeeps}
@@ -56,7 +61,7 @@ clause-filled at None missing is literal = absurd cc
 clause-filled at (Some (clauses.Value value_at spans)) missing is literal = (and_parts (is_filled spans) (all (map span_literal spans)) literal).0
 clause-filled at (Some (clauses.Redefines clause_at name name_at)) missing is literal = absurd cc
 clause-filled at (Some (clauses.Picture clause_at text text_at)) missing is literal = absurd cc
-clause-filled at (Some (clauses.Usage clause_at)) missing is literal = absurd cc
+clause-filled at (Some (clauses.Usage clause_at said_usage)) missing is literal = absurd cc
 clause-filled at (Some (clauses.Sign clause_at leading separate)) missing is literal = absurd cc
 clause-filled at (Some (clauses.Occurs clause_at count count_at)) missing is literal = absurd cc
 
@@ -66,36 +71,39 @@ spans-filled (draft ∷ drafts) e = tt
 
 -- ---- no fault of an entry is none of its kind
 
-module _ (list : List Entry) (long : List ℕ) (at : ℕ) where
-  kind-none : (entry : Entry) (draft : EntryDraft) → entry_fault list long at entry draft ≡ None →
-      (level_stands entry.level (holder_of entry (before list at)) ≡ true) × (kind_fault list long at entry draft (holder_of entry (before list at)) ≡ None)
+module _ (list : List Entry) (long : List ℕ) (used : List (Option Usage)) (at : ℕ) where
+  kind-none : (entry : Entry) (draft : EntryDraft) → entry_fault list long used at entry draft ≡ None →
+      (level_stands entry.level (holder_of entry (before list at)) ≡ true) × (kind_fault list long used at entry draft (holder_of entry (before list at)) ≡ None)
   kind-none entry draft e = go (level_stands entry.level (holder_of entry (before list at))) e
     where
-      go : (b : Bool) → (if b then kind_fault list long at entry draft (holder_of entry (before list at)) else fault_at Level draft.at) ≡ None →
-          (b ≡ true) × (kind_fault list long at entry draft (holder_of entry (before list at)) ≡ None)
+      go : (b : Bool) → (if b then kind_fault list long used at entry draft (holder_of entry (before list at)) else fault_at Level draft.at) ≡ None →
+          (b ≡ true) × (kind_fault list long used at entry draft (holder_of entry (before list at)) ≡ None)
       go true e = (refl, e)
       go false e = absurd cc
 
   -- no rule on its clauses is broken
   record Fine (entry : Entry) (draft : EntryDraft) : Type 0 where
     picture : picture_fault entry.picture (is_group entry (behind list at)) draft.at draft.clauses ≡ None
+    usage : usage_fault entry.picture (is_group entry (behind list at)) (usage_above used (holder_of entry (before list at))) draft.at draft.clauses ≡ None
     sign : sign_fault entry.picture (is_group entry (behind list at)) draft.clauses ≡ None
     occurs : occurs_fault entry.level (standing_of entry (before list at)).dims draft.clauses ≡ None
     value : value_fault entry (target_of list long at entry) (standing_of entry (before list at)).barred draft.clauses ≡ None
     redefines : redefines_fault list long at entry draft.clauses ≡ None
 
-  fine : (entry : Entry) (draft : EntryDraft) → item_fault list long at entry draft ≡ None → Fine entry draft
+  fine : (entry : Entry) (draft : EntryDraft) → item_fault list long used at entry draft ≡ None → Fine entry draft
   fine entry draft e =
       let target = target_of list long at entry in
       let standing = standing_of entry (before list at) in
-      let h = first-none (clauses_fault entry target standing draft ∷ redefines_fault list long at entry draft.clauses ∷ []) e in
+      let above = usage_above used (holder_of entry (before list at)) in
+      let h = first-none (clauses_fault entry target standing above draft ∷ redefines_fault list long at entry draft.clauses ∷ []) e in
       let k = first-none
       (duplicate_fault draft.clauses
       ∷ picture_fault entry.picture target.group draft.at draft.clauses
+      ∷ usage_fault entry.picture target.group above draft.at draft.clauses
       ∷ sign_fault entry.picture target.group draft.clauses
       ∷ occurs_fault entry.level standing.dims draft.clauses
       ∷ value_fault entry target standing.barred draft.clauses ∷ []) h.0 in
-      record { picture = k.1.0; sign = k.1.1.0; occurs = k.1.1.1.0; value = k.1.1.1.1.0; redefines = h.1.0 }
+      record { picture = k.1.0; usage = k.1.1.0; sign = k.1.1.1.0; occurs = k.1.1.1.1.0; value = k.1.1.1.1.1.0; redefines = h.1.0 }
 
   -- what it redefines is marked
   marks-by : (entry : Entry) (clause : Option Clause) → Found list long at entry clause → if_any (is_of kinds.Redefines) clause ≡ true →
@@ -103,7 +111,7 @@ module _ (list : List Entry) (long : List ℕ) (at : ℕ) where
   marks-by entry None f is = refl
   marks-by entry (Some (clauses.Redefines clause_at name name_at)) f is = ap marked f.1.0
   marks-by entry (Some (clauses.Picture clause_at text text_at)) f is = absurd cc
-  marks-by entry (Some (clauses.Usage clause_at)) f is = absurd cc
+  marks-by entry (Some (clauses.Usage clause_at said_usage)) f is = absurd cc
   marks-by entry (Some (clauses.Sign clause_at leading separate)) f is = absurd cc
   marks-by entry (Some (clauses.Occurs clause_at count count_at)) f is = absurd cc
   marks-by entry (Some (clauses.Value clause_at spans)) f is = absurd cc
@@ -118,20 +126,20 @@ module _ (list : List Entry) (long : List ℕ) (at : ℕ) where
   no-picture false = refl
 
   -- by itself it says what its draft does
-  pub same-base : (file : Option ℕ) (draft : EntryDraft) → entry_fault list long at (base_of file draft) draft ≡ None → base (settled list at draft (base_of file draft)) ≡ base_of file draft
+  pub same-base : (file : Option ℕ) (draft : EntryDraft) → entry_fault list long used at (base_of file draft) draft ≡ None → base (settled list used at draft (base_of file draft)) ≡ base_of file draft
   same-base file draft e = go (level_of draft.level == 88) refl e
     where
-      go : (b : Bool) → (level_of draft.level == 88) ≡ b → entry_fault list long at (if b then condition_of draft file else item_of draft (level_of draft.level) file) draft ≡ None →
-          base (settled list at draft (if b then condition_of draft file else item_of draft (level_of draft.level) file)) ≡ (if b then condition_of draft file else item_of draft (level_of draft.level) file)
-      go true is e = same-entry refl refl refl refl (no-picture (is_group (condition_of draft file) (behind list at))) refl refl refl refl
+      go : (b : Bool) → (level_of draft.level == 88) ≡ b → entry_fault list long used at (if b then condition_of draft file else item_of draft (level_of draft.level) file) draft ≡ None →
+          base (settled list used at draft (if b then condition_of draft file else item_of draft (level_of draft.level) file)) ≡ (if b then condition_of draft file else item_of draft (level_of draft.level) file)
+      go true is e = same-entry refl refl refl refl (no-picture (is_group (condition_of draft file) (behind list at))) refl refl refl refl refl
       go false is e =
           let entry : Entry = item_of draft (level_of draft.level) file in
-          let k = subst (λ b. (if b then condition_fault list long draft (holder_of entry (before list at)) else item_fault list long at entry draft) ≡ None) is (kind-none entry draft e).1 in
+          let k = subst (λ b. (if b then condition_fault list long draft (holder_of entry (before list at)) else item_fault list long used at entry draft) ≡ None) is (kind-none entry draft e).1 in
           let F = fine entry draft k in
           same-entry refl refl refl
           (ap (λ b. marked (if b then None else redefined_in list at entry draft.clauses)) is ∙ marks entry draft F)
           (pictured (is_group entry (behind list at)) draft.at (clause_of kinds.Picture draft.clauses) F.picture).1
-          refl refl refl refl
+          refl refl refl refl refl
 
 -- ---- the names of entries by themselves are theirs
 
@@ -141,21 +149,27 @@ same-name [] (suc n) other e = absurd cc
 same-name (entry ∷ entries) zero other e = ap entry_name e
 same-name (entry ∷ entries) (suc n) other e = same-name entries n other e
 
-module _ (program : Program) (at : ℕ) (file : Option ℕ) (draft : EntryDraft) where
+module _ (program : Program) (used : List (Option Usage)) (at : ℕ) (file : Option ℕ) (draft : EntryDraft) where
+  -- the usage of this entry in the list is what is handed down to it, or its own
+  abbrev HandedTo : Entry → Type 0
+  HandedTo entry = slice_get used at ≡ Some (entry_usage entry (usage_above used (holder_of entry (before (bases program) at))) (draft_usage draft))
+
   abbrev titled : Option (List ℕ) → List ℕ
   titled o = elim o [ None ↦ codes "FILLER" | Some name ↦ name ]
 
-  item-keeps : (is : (level_of draft.level == 88) ≡ false) → Fine (bases program) (sizes program) at (item_of draft (level_of draft.level) file) draft →
-      base (settled (bases program) at draft (item_of draft (level_of draft.level) file)) ≡ item_of draft (level_of draft.level) file →
-      ItemKeeps program at (settled (bases program) at draft (item_of draft (level_of draft.level) file))
-  item-keeps is F same =
+  item-keeps : (is : (level_of draft.level == 88) ≡ false) → HandedTo (item_of draft (level_of draft.level) file) → Fine (bases program) (sizes program) used at (item_of draft (level_of draft.level) file) draft →
+      base (settled (bases program) used at draft (item_of draft (level_of draft.level) file)) ≡ item_of draft (level_of draft.level) file →
+      ItemKeeps program at (settled (bases program) used at draft (item_of draft (level_of draft.level) file))
+  item-keeps is handed F same =
       let entry : Entry = item_of draft (level_of draft.level) file in
-      let E : Entry = settled (bases program) at draft entry in
+      let E : Entry = settled (bases program) used at draft entry in
       let group = is_group entry (behind (bases program) at) in
       let P = pictured group draft.at (clause_of kinds.Picture draft.clauses) F.picture in
       record {
         pictured = subst (λ (x : Entry). PictureSuits (is_group x (behind (bases program) at)) (kept group entry.picture)) (sym same) P.0;
         signed = subst (SignSuits entry.sign) (sym P.1) (signed group entry.picture (clause_of kinds.Sign draft.clauses) F.sign);
+        used = subst (λ u. usage_suits u entry.sign (kept group entry.picture) ≡ true) (sym settled-usage)
+            (usage-suits group entry.picture (usage_above used (holder_of entry (before (bases program) at))) draft.at draft.clauses F.picture F.usage);
         repeated = subst (λ (x : Entry). IfAny (Repeats x.level (standing_of x (before (bases program) at)).dims) entry.occurs) (sym same)
             (repeated entry.level (standing_of entry (before (bases program) at)).dims (clause_of kinds.Occurs draft.clauses) F.occurs);
         valued = subst
@@ -166,6 +180,16 @@ module _ (program : Program) (at : ℕ) (file : Option ℕ) (draft : EntryDraft)
         no_ranges = refl;
       }
     where
+      settled-usage : usage_of (bases program) used at (item_of draft (level_of draft.level) file)
+          ≡ (if is_group (item_of draft (level_of draft.level) file) (behind (bases program) at) then Display
+          else usage_or (usage_by (usage_above used (holder_of (item_of draft (level_of draft.level) file) (before (bases program) at))) (own_usage draft.clauses)))
+      settled-usage =
+          let entry : Entry = item_of draft (level_of draft.level) file in
+          let group = is_group entry (behind (bases program) at) in
+          let above = usage_above used (holder_of entry (before (bases program) at)) in
+          ap (λ u. if group then Display else usage_or (found_usage u)) handed
+          ∙ ap (λ c. if group then Display else usage_or (if c then None else usage_by above (own_usage draft.clauses))) is
+
       by : (E : Entry) → base E ≡ item_of draft (level_of draft.level) file → (clause : Option Clause) →
           Found (bases program) (sizes program) at (item_of draft (level_of draft.level) file) clause →
           IfAny (Redefines program at E) (redefined_by (bases program) at (item_of draft (level_of draft.level) file) clause)
@@ -178,7 +202,7 @@ module _ (program : Program) (at : ℕ) (file : Option ℕ) (draft : EntryDraft)
           (subst (λ (x : Entry). Redefined (bases program) (sizes program) at x (item_name program f.0) f.0) (sym same)
           (subst (λ (title : List ℕ). Redefined (bases program) (sizes program) at entry title f.0) (sym title) f.1))
       by E same (Some (clauses.Picture clause_at text text_at)) f = tt
-      by E same (Some (clauses.Usage clause_at)) f = tt
+      by E same (Some (clauses.Usage clause_at said_usage)) f = tt
       by E same (Some (clauses.Sign clause_at leading separate)) f = tt
       by E same (Some (clauses.Occurs clause_at count count_at)) f = tt
       by E same (Some (clauses.Value clause_at spans)) f = tt
@@ -189,9 +213,9 @@ module _ (program : Program) (at : ℕ) (file : Option ℕ) (draft : EntryDraft)
   no-kept true = refl
   no-kept false = refl
 
-  condition-keeps : entry_literal draft ≡ true → condition_fault (bases program) (sizes program) draft (holder_of (condition_of draft file) (before (bases program) at)) ≡ None →
-      base (settled (bases program) at draft (condition_of draft file)) ≡ condition_of draft file → ConditionKeeps program at (settled (bases program) at draft (condition_of draft file))
-  condition-keeps literal e same =
+  condition-keeps : entry_literal draft ≡ true → HandedTo (condition_of draft file) → condition_fault (bases program) (sizes program) draft (holder_of (condition_of draft file) (before (bases program) at)) ≡ None →
+      base (settled (bases program) used at draft (condition_of draft file)) ≡ condition_of draft file → ConditionKeeps program at (settled (bases program) used at draft (condition_of draft file))
+  condition-keeps literal handed e same =
       let holder = holder_of (condition_of draft file) (before (bases program) at) in
       let h = first-none
       (duplicate_fault draft.clauses ∷ other_fault draft.clauses ∷ missing_fault draft.at draft.clauses
@@ -200,6 +224,7 @@ module _ (program : Program) (at : ℕ) (file : Option ℕ) (draft : EntryDraft)
         no_redefines = refl;
         no_picture = no-kept (is_group (condition_of draft file) (behind (bases program) at));
         no_sign = refl;
+        no_usage = display (is_group (condition_of draft file) (behind (bases program) at));
         no_occurs = refl;
         no_value = refl;
         filled = spans-filled (spans_of draft.clauses)
@@ -207,6 +232,10 @@ module _ (program : Program) (at : ℕ) (file : Option ℕ) (draft : EntryDraft)
         fit = subst (λ (x : Entry). FitHolder program (map span_of (spans_of draft.clauses)) (holder_of x (before (bases program) at))) (sym same) (fit-holder holder h.1.1.1.0);
       }
     where
+      display : (b : Bool) → (if b then Display else usage_or (found_usage (slice_get used at))) ≡ Display
+      display true = refl
+      display false = ap (λ u. usage_or (found_usage u)) handed
+
       fit-at : (item : ℕ) (o : Option Entry) → fits_at (bases program) (sizes program) draft item o ≡ None → FitAt program (map span_of (spans_of draft.clauses)) item o
       fit-at item None e = tt
       fit-at item (Some entry) e = (spans-fit (target_of (bases program) (sizes program) item entry) None (spans_of draft.clauses) e).1
@@ -217,28 +246,29 @@ module _ (program : Program) (at : ℕ) (file : Option ℕ) (draft : EntryDraft)
 
   -- ---- an entry
 
-  pub entry-keeps : entry_literal draft ≡ true → entry_fault (bases program) (sizes program) at (base_of file draft) draft ≡ None → EntryKeeps program at (settled (bases program) at draft (base_of file draft))
-  entry-keeps literal e = go (level_of draft.level == 88) refl e (same-base (bases program) (sizes program) at file draft e)
+  pub entry-keeps : entry_literal draft ≡ true → HandedTo (base_of file draft) → entry_fault (bases program) (sizes program) used at (base_of file draft) draft ≡ None → EntryKeeps program at (settled (bases program) used at draft (base_of file draft))
+  entry-keeps literal handed e = go (level_of draft.level == 88) refl handed e (same-base (bases program) (sizes program) used at file draft e)
     where
-      stands : (x : Entry) → entry_fault (bases program) (sizes program) at x draft ≡ None → base (settled (bases program) at draft x) ≡ x →
-          level_stands x.level (holder_of (base (settled (bases program) at draft x)) (before (bases program) at)) ≡ true
+      stands : (x : Entry) → entry_fault (bases program) (sizes program) used at x draft ≡ None → base (settled (bases program) used at draft x) ≡ x →
+          level_stands x.level (holder_of (base (settled (bases program) used at draft x)) (before (bases program) at)) ≡ true
       stands x e same =
-          subst (λ (y : Entry). level_stands x.level (holder_of y (before (bases program) at)) ≡ true) (sym same) (kind-none (bases program) (sizes program) at x draft e).0
+          subst (λ (y : Entry). level_stands x.level (holder_of y (before (bases program) at)) ≡ true) (sym same) (kind-none (bases program) (sizes program) used at x draft e).0
 
-      go : (b : Bool) → (level_of draft.level == 88) ≡ b → entry_fault (bases program) (sizes program) at (if b then condition_of draft file else item_of draft (level_of draft.level) file) draft ≡ None →
-          base (settled (bases program) at draft (if b then condition_of draft file else item_of draft (level_of draft.level) file)) ≡ (if b then condition_of draft file else item_of draft (level_of draft.level) file) →
-          EntryKeeps program at (settled (bases program) at draft (if b then condition_of draft file else item_of draft (level_of draft.level) file))
-      go true is e same = record {
+      go : (b : Bool) → (level_of draft.level == 88) ≡ b → HandedTo (if b then condition_of draft file else item_of draft (level_of draft.level) file) →
+          entry_fault (bases program) (sizes program) used at (if b then condition_of draft file else item_of draft (level_of draft.level) file) draft ≡ None →
+          base (settled (bases program) used at draft (if b then condition_of draft file else item_of draft (level_of draft.level) file)) ≡ (if b then condition_of draft file else item_of draft (level_of draft.level) file) →
+          EntryKeeps program at (settled (bases program) used at draft (if b then condition_of draft file else item_of draft (level_of draft.level) file))
+      go true is handed e same = record {
         level = refl;
         stands = stands (condition_of draft file) e same;
-        kind = condition-keeps literal (kind-none (bases program) (sizes program) at (condition_of draft file) draft e).1 same;
+        kind = condition-keeps literal handed (kind-none (bases program) (sizes program) used at (condition_of draft file) draft e).1 same;
       }
-      go false is e same =
+      go false is handed e same =
           let entry : Entry = item_of draft (level_of draft.level) file in
-          let k = subst (λ b. (if b then condition_fault (bases program) (sizes program) draft (holder_of entry (before (bases program) at)) else item_fault (bases program) (sizes program) at entry draft) ≡ None) is
-          (kind-none (bases program) (sizes program) at entry draft e).1 in
+          let k = subst (λ b. (if b then condition_fault (bases program) (sizes program) draft (holder_of entry (before (bases program) at)) else item_fault (bases program) (sizes program) used at entry draft) ≡ None) is
+          (kind-none (bases program) (sizes program) used at entry draft e).1 in
           record {
             level = a-level (number_of draft.level);
             stands = stands entry e same;
-            kind = subst (λ b. KindKeeps b program at (settled (bases program) at draft entry)) (sym is) (item-keeps is (fine (bases program) (sizes program) at entry draft k) same);
+            kind = subst (λ b. KindKeeps b program at (settled (bases program) used at draft entry)) (sym is) (item-keeps is handed (fine (bases program) (sizes program) used at entry draft k) same);
           }

@@ -16,7 +16,12 @@ use Rattle.picture_data.specs.declared.symbols.Shape.{Shape}
 use Rattle.picture_data.specs.declared.symbols.Shape.TheVariants as shapes
 use Rattle.picture_data.specs.declared.symbols.Symbols.{Symbols}
 use Rattle.picture_data.specs.Symbols.{symbol_s, symbol_v, symbol_9, symbol_a, symbol_x, behind, behind_sign, behind_point, behind_nine, behind_letter, behind_any, most, counted, added, too_many, picture_by, number}
-use Rattle.picture_data.specs.Reading.{read_from, step, step_by, symbol_by, placed, kept, digit, closed, in_count, finish, finish_by, ended, start, flaw_of, picture_of}
+use Rattle.picture_data.specs.Reading.{read_from, step, step_by, symbol_by, placed, kept, digit, closed, in_count, finish, finish_by, ended, start, flaw_of, plain_picture, picture_of}
+use Rattle.picture_data.specs.Edited.{first_plain, is_edited, edited_picture, edited_by, picture_by as picture_by_mask}
+use Rattle.edit_fields.specs.declared.fault.MaskFault.{MaskFault}
+use Rattle.edit_fields.specs.Mask.{held_unless}
+use Rattle.edit_fields.specs.Reading.{mask_fault_of}
+use Rattle.edit_fields.proofs.HeldMasks.{held_of}
 use Rattle.round_trip.specs.declarations.printed_pictures.Writable.{IsWritable}
 
 -- letters and other characters: one at least, and no more than their limit
@@ -203,5 +208,21 @@ read-writable count (Err flaw) text h = tt
 read-writable count (Ok reading) [] h = ended-writable count (finish reading) (finish-writable reading h)
 read-writable count (Ok reading) (byte ∷ text) h = read-writable (count + 1) (step (to_ascii_uppercase byte) reading) text (step-keeps (to_ascii_uppercase byte) reading h)
 
+-- what a text without faults stands for is held
+mask-writable : (text : List ℕ) (fault : Option MaskFault) → mask_fault_of text ≡ fault → Writable (picture_by_mask (held_unless fault text))
+mask-writable text None e = held_of text e
+mask-writable text (Some fault) e = tt
+
+edited-writable : (text : List ℕ) (plain : Option ℕ) → Writable (edited_by plain text)
+edited-writable text None = mask-writable text (mask_fault_of text) refl
+edited-writable text (Some position) = tt
+
+text-writable : (text : List ℕ) → Writable (picture_of text)
+text-writable text = go (is_edited text)
+  where
+    go : (b : Bool) → Writable (if b then edited_picture text else plain_picture text)
+    go true = edited-writable text (first_plain 0 text)
+    go false = read-writable 0 (Ok start) text tt
+
 pub read_pictures_are_writable : (text : List ℕ) (picture : Picture) → picture_of text ≡ Ok picture → IsWritable picture
-read_pictures_are_writable text picture e = subst Writable e (read-writable 0 (Ok start) text tt)
+read_pictures_are_writable text picture e = subst Writable e (text-writable text)

@@ -2,6 +2,7 @@
 use Rattle.std.proofs.Common.{◌≡◌, ℕ, zero, suc, ◌+◌, Bool, true, false, if◌then◌else◌, List, [], ◌∷◌, ◌++◌, length, map, drop, Option, Some, None, refl, ap, sym, ◌∙◌, subst, append_assoc, append-nil, length-append, arith}
 use Rattle.std.specs.Prelude.{◌==◌, slice_get}
 use Rattle.cob_tree.specs.declared.entry.Entry.{Entry}
+use Rattle.cob_tree.specs.declared.picture.Usage.{Usage}
 use Rattle.cob_tree.specs.declared.program.Program.{Program}
 use Rattle.cobol_grammar.specs.declared.data_forms.draft.EntryDraft.{EntryDraft}
 use Rattle.cobol_grammar.specs.declared.data_forms.draft.FdDraft.{FdDraft}
@@ -14,6 +15,9 @@ use Rattle.declaration_checks.specs.Base.{base_of, condition_of, item_of, level_
 use Rattle.declaration_checks.specs.Declaring.{section_bases, record_bases, settled, settled_at, settle, settle_all, judged_at, judge, judge_all}
 use Rattle.declaration_checks.specs.File.{file_number}
 use Rattle.declaration_checks.specs.Rule.{entry_fault}
+use Rattle.declaration_checks.specs.Standing.{before, holder_of}
+use Rattle.declaration_checks.specs.Usage.{entry_usage, usage_above, draft_usage, section_usages, record_usages}
+use Rattle.grammar_laws.proofs.whole_counts_lemmas.entry_bounds_lemmas.Usages.{Handed}
 use Rattle.round_trip.specs.spelling.data_spelling.Sections.{StandIn}
 use Rattle.round_trip.specs.declarations.printed_declarations.Rules.{base, bases, sizes, EntriesKeep}
 use Rattle.round_trip.proofs.declarations_lemmas.Entries.{none_of}
@@ -59,17 +63,17 @@ all-flat selects fds storage =
 
 -- ---- the entries that they declare
 
-abbrev pub settled_from : List Entry → (at : ℕ) → List Placed → List Entry
-settled_from list at [] = []
-settled_from list at (placed ∷ more) = settled list at placed.draft (placed_base placed) ∷ settled_from list (at + 1) more
+abbrev pub settled_from : List Entry → List (Option Usage) → (at : ℕ) → List Placed → List Entry
+settled_from list used at [] = []
+settled_from list used at (placed ∷ more) = settled list used at placed.draft (placed_base placed) ∷ settled_from list used (at + 1) more
 
-pub settled-append : (list : List Entry) (at : ℕ) (front back : List Placed) → settled_from list at (front ++ back) ≡ settled_from list at front ++ settled_from list (at + length front) back
-settled-append list at [] back = let same : at ≡ at + 0 = omega arith in ap (λ n. settled_from list n back) same
-settled-append list at (placed ∷ front) back =
+pub settled-append : (list : List Entry) (used : List (Option Usage)) (at : ℕ) (front back : List Placed) → settled_from list used at (front ++ back) ≡ settled_from list used at front ++ settled_from list used (at + length front) back
+settled-append list used at [] back = let same : at ≡ at + 0 = omega arith in ap (λ n. settled_from list used n back) same
+settled-append list used at (placed ∷ front) back =
     let same : (at + 1) + length front ≡ at + length (placed ∷ front) = omega arith in
-    ap (λ more. settled list at placed.draft (placed_base placed) ∷ more) (settled-append list (at + 1) front back ∙ ap (λ n. settled_from list (at + 1) front ++ settled_from list n back) same)
+    ap (λ more. settled list used at placed.draft (placed_base placed) ∷ more) (settled-append list used (at + 1) front back ∙ ap (λ n. settled_from list used (at + 1) front ++ settled_from list used n back) same)
 
-drop-next : (list : List Entry) (k : ℕ) (x : Entry) (more : List Entry) → drop k list ≡ x ∷ more → (slice_get list k ≡ Some x) × (drop (k + 1) list ≡ more)
+drop-next : {A : Type 0} (list : List A) (k : ℕ) (x : A) (more : List A) → drop k list ≡ x ∷ more → (slice_get list k ≡ Some x) × (drop (k + 1) list ≡ more)
 drop-next [] zero x more e = absurd cc
 drop-next [] (suc k) x more e = absurd cc
 drop-next (y ∷ list) zero x more e = (cc, cc)
@@ -81,58 +85,99 @@ drop-next (y ∷ list) (suc k) x more e =
 abbrev pub drafts_of : List Placed → List EntryDraft
 drafts_of placed = map (λ (p : Placed). p.draft) placed
 
-module _ (list : List Entry) (long : List ℕ) where
+-- the own usage of a draft
+abbrev pub placed_usage : Placed → Option Usage
+placed_usage placed = draft_usage placed.draft
+
+pub section-owns : (file : Option ℕ) (drafts : List EntryDraft) → section_usages drafts ≡ map placed_usage (section file drafts)
+section-owns file [] = refl
+section-owns file (draft ∷ drafts) = ap (λ list. draft_usage draft ∷ list) (section-owns file drafts)
+
+owns-append : (front back : List Placed) → map placed_usage (front ++ back) ≡ map placed_usage front ++ map placed_usage back
+owns-append [] back = refl
+owns-append (placed ∷ front) back = ap (λ list. placed_usage placed ∷ list) (owns-append front back)
+
+fds-owns : (selects : List SelectDraft) (at : ℕ) (fds : List FdDraft) → record_usages fds ≡ map placed_usage (flat_fds selects at fds)
+fds-owns selects at [] = refl
+fds-owns selects at (fd ∷ fds) =
+    let front = section (Some (file_number selects fd at)) fd.entries in
+    ap (λ list. list ++ record_usages fds) (section-owns (Some (file_number selects fd at)) fd.entries)
+    ∙ ap (λ list. map placed_usage front ++ list) (fds-owns selects (at + 1) fds)
+    ∙ sym (owns-append front (flat_fds selects (at + 1) fds))
+
+pub all-owns : (selects : List SelectDraft) (fds : List FdDraft) (storage : List EntryDraft) →
+    record_usages fds ++ section_usages storage ≡ map placed_usage (flat_fds selects 0 fds ++ section None storage)
+all-owns selects fds storage =
+    ap (λ list. list ++ section_usages storage) (fds-owns selects 0 fds)
+    ∙ ap (λ list. map placed_usage (flat_fds selects 0 fds) ++ list) (section-owns None storage)
+    ∙ sym (owns-append (flat_fds selects 0 fds) (section None storage))
+
+-- each has the usage that is handed down to it, or its own
+abbrev pub AllHanded : List Entry → List (Option Usage) → ℕ → List Placed → Type 0
+AllHanded list used at [] = Unit {0}
+AllHanded list used at (p ∷ placed) =
+    (slice_get used at ≡ Some (entry_usage (placed_base p) (usage_above used (holder_of (placed_base p) (before list at))) (placed_usage p))) × AllHanded list used (at + 1) placed
+
+pub all-handed : (list : List Entry) (own used : List (Option Usage)) → Handed list own used → (placed : List Placed) (at : ℕ) → drop at list ≡ map placed_base placed → drop at own ≡ map placed_usage placed →
+    AllHanded list used at placed
+all-handed list own used handed [] at from owned = tt
+all-handed list own used handed (p ∷ placed) at from owned =
+    let found = drop-next list at (placed_base p) (map placed_base placed) from in
+    let its = drop-next own at (placed_usage p) (map placed_usage placed) owned in
+    (handed at (placed_base p) (placed_usage p) found.0 its.0, all-handed list own used handed placed (at + 1) found.1 its.1)
+
+module _ (list : List Entry) (long : List ℕ) (used : List (Option Usage)) where
   abbrev pub From : ℕ → List Placed → Type 0
   From at placed = drop at list ≡ map placed_base placed
 
-  pub settles : (placed more : List Placed) (done : List Entry) → From (length done) (placed ++ more) → settle_all list done (drafts_of placed) ≡ done ++ settled_from list (length done) placed
+  pub settles : (placed more : List Placed) (done : List Entry) → From (length done) (placed ++ more) → settle_all list used done (drafts_of placed) ≡ done ++ settled_from list used (length done) placed
   settles [] more done from = sym (append-nil done)
   settles (p ∷ placed) more done from =
       let found = drop-next list (length done) (placed_base p) (map placed_base (placed ++ more)) from in
-      let next : Entry = settled list (length done) p.draft (placed_base p) in
-      let one : settle list done p.draft ≡ done ++ next ∷ [] = ap (settled_at list done p.draft) found.0 in
+      let next : Entry = settled list used (length done) p.draft (placed_base p) in
+      let one : settle list used done p.draft ≡ done ++ next ∷ [] = ap (settled_at list used done p.draft) found.0 in
       let size : length (done ++ next ∷ []) ≡ length done + 1 = length-append done (next ∷ []) in
-      ap (λ entries. settle_all list entries (drafts_of placed)) one
+      ap (λ entries. settle_all list used entries (drafts_of placed)) one
       ∙ settles placed more (done ++ next ∷ []) (subst (λ n. From n (placed ++ more)) (sym size) found.1)
-      ∙ append_assoc done (next ∷ []) (settled_from list (length (done ++ next ∷ [])) placed)
-      ∙ ap (λ n. done ++ next ∷ settled_from list n placed) size
+      ∙ append_assoc done (next ∷ []) (settled_from list used (length (done ++ next ∷ [])) placed)
+      ∙ ap (λ n. done ++ next ∷ settled_from list used n placed) size
 
   -- no rule on any of them is broken
   abbrev pub AllFine : ℕ → List Placed → Type 0
   AllFine at [] = Unit {0}
-  AllFine at (p ∷ placed) = (entry_fault list long at (placed_base p) p.draft ≡ None) × AllFine (at + 1) placed
+  AllFine at (p ∷ placed) = (entry_fault list long used at (placed_base p) p.draft ≡ None) × AllFine (at + 1) placed
 
   abbrev pub faults_from : ℕ → Option Note → List Placed → Option Note
   faults_from at fault [] = fault
-  faults_from at fault (p ∷ placed) = faults_from (at + 1) (earliest fault (entry_fault list long at (placed_base p) p.draft)) placed
+  faults_from at fault (p ∷ placed) = faults_from (at + 1) (earliest fault (entry_fault list long used at (placed_base p) p.draft)) placed
 
   pub judges : (placed more : List Placed) (at : ℕ) (fault : Option Note) → From at (placed ++ more) →
-      judge_all list long (record { at = at; fault = fault }) (drafts_of placed) ≡ record { at = at + length placed; fault = faults_from at fault placed }
+      judge_all list long used (record { at = at; fault = fault }) (drafts_of placed) ≡ record { at = at + length placed; fault = faults_from at fault placed }
   judges [] more at fault from = let same : at ≡ at + 0 = omega arith in ap (λ n. record { at = n; fault = fault }) same
   judges (p ∷ placed) more at fault from =
       let found = drop-next list at (placed_base p) (map placed_base (placed ++ more)) from in
       let start : Judged = record { at = at; fault = fault } in
-      let later = earliest fault (entry_fault list long at (placed_base p) p.draft) in
-      let one : judge list long start p.draft ≡ record { at = at + 1; fault = later } = ap (judged_at list long start p.draft) found.0 in
+      let later = earliest fault (entry_fault list long used at (placed_base p) p.draft) in
+      let one : judge list long used start p.draft ≡ record { at = at + 1; fault = later } = ap (judged_at list long used start p.draft) found.0 in
       let same : (at + 1) + length placed ≡ at + length (p ∷ placed) = omega arith in
-      ap (λ judged. judge_all list long judged (drafts_of placed)) one
+      ap (λ judged. judge_all list long used judged (drafts_of placed)) one
       ∙ judges placed more (at + 1) later found.1
       ∙ ap (λ n. record { at = n; fault = faults_from (at + 1) later placed }) same
 
   pub all-fine : (placed : List Placed) (at : ℕ) (fault : Option Note) → faults_from at fault placed ≡ None → (fault ≡ None) × AllFine at placed
   all-fine [] at fault e = (e, tt)
   all-fine (p ∷ placed) at fault e =
-      let behind = all-fine placed (at + 1) (earliest fault (entry_fault list long at (placed_base p) p.draft)) e in
-      let here = none_of fault (entry_fault list long at (placed_base p) p.draft) behind.0 in
+      let behind = all-fine placed (at + 1) (earliest fault (entry_fault list long used at (placed_base p) p.draft)) e in
+      let here = none_of fault (entry_fault list long used at (placed_base p) p.draft) behind.0 in
       (here.0, (here.1, behind.1))
 
   -- by themselves they say what their drafts do
-  pub same-bases : (placed : List Placed) (at : ℕ) → AllFine at placed → map base (settled_from list at placed) ≡ map placed_base placed
+  pub same-bases : (placed : List Placed) (at : ℕ) → AllFine at placed → map base (settled_from list used at placed) ≡ map placed_base placed
   same-bases [] at h = refl
   same-bases (p ∷ placed) at h =
-      ap (λ e. e ∷ map base (settled_from list (at + 1) placed)) (same-base list long at p.file p.draft h.0) ∙ ap (λ more. placed_base p ∷ more) (same-bases placed (at + 1) h.1)
+      ap (λ e. e ∷ map base (settled_from list used (at + 1) placed)) (same-base list long used at p.file p.draft h.0) ∙ ap (λ more. placed_base p ∷ more) (same-bases placed (at + 1) h.1)
 
-  pub stand-in : (file : Option ℕ) (drafts : List EntryDraft) (at : ℕ) → StandIn file (settled_from list at (section file drafts))
+  pub stand-in : (file : Option ℕ) (drafts : List EntryDraft) (at : ℕ) → StandIn file (settled_from list used at (section file drafts))
   stand-in file [] at = tt
   stand-in file (draft ∷ drafts) at = (go (level_of draft.level == 88), stand-in file drafts (at + 1))
     where
@@ -146,6 +191,7 @@ abbrev pub AreLiteral : List Placed → Type 0
 AreLiteral [] = Unit {0}
 AreLiteral (p ∷ placed) = (entry_literal p.draft ≡ true) × AreLiteral placed
 
-pub all-keep : (program : Program) (placed : List Placed) (at : ℕ) → AreLiteral placed → AllFine (bases program) (sizes program) at placed → EntriesKeep program at (settled_from (bases program) at placed)
-all-keep program [] at l h = tt
-all-keep program (p ∷ placed) at l h = (entry-keeps program at p.file p.draft l.0 h.0, all-keep program placed (at + 1) l.1 h.1)
+pub all-keep : (program : Program) (used : List (Option Usage)) (placed : List Placed) (at : ℕ) → AreLiteral placed → AllHanded (bases program) used at placed → AllFine (bases program) (sizes program) used at placed →
+    EntriesKeep program at (settled_from (bases program) used at placed)
+all-keep program used [] at l u h = tt
+all-keep program used (p ∷ placed) at l u h = (entry-keeps program used at p.file p.draft l.0 u.0 h.0, all-keep program used placed (at + 1) l.1 u.1 h.1)

@@ -1,16 +1,16 @@
 -- Files, entries and their pictures.
 use Rattle.std.proofs.Common.{◌≡◌, ℕ, zero, suc, ◌+◌, ◌-◌, ◌%◌, ◌^◌, ◌<◌, ◌≤◌, Bool, true, false, not, ◌&&◌, List, [], ◌∷◌, ◌++◌, length, take, map, Option, Some, None, refl, ap, sym, ◌∙◌, subst, arith, get_or, cond}
-use Rattle.std.specs.Prelude.{codes, decimal, nat_le, nat_lt, ◌||◌, ◌==◌, if◌then◌else◌}
+use Rattle.std.specs.Prelude.{codes, decimal, slice_index, is_some, nat_le, nat_lt, ◌||◌, ◌==◌, if◌then◌else◌}
 use Rattle.std.specs.Char.{to_ascii_uppercase}
 use Rattle.std.specs.List.{list_all, prefix_len}
 use Rattle.std.specs.Str.{byte}
-use Rattle.std.proofs.lemmas.Bool.{and_parts, leb-true, ltb-true}
+use Rattle.std.proofs.lemmas.Bool.{and_parts, eqb-true, leb-true, ltb-true, not-true}
 use Rattle.std.proofs.lemmas.Bool.Decides.{nat_tests}
 use Rattle.std.proofs.lemmas.Fmt.{decimal_by_steps, decimal_nonempty, length-decimal-le}
 use Rattle.std.proofs.lemmas.List.{length-append}
 use Rattle.std.proofs.lemmas.List.Folds.{list_all-append}
 use Rattle.std.proofs.lemmas.List.Sums.{AllPass-from_list_all}
-use Rattle.cob_base.specs.Bytes.{digit_0, left_parenthesis, right_parenthesis}
+use Rattle.cob_base.specs.Bytes.{comma, digit_0, left_parenthesis, right_parenthesis}
 use Rattle.cob_base.specs.Spelling.{word_byte}
 use Rattle.cob_tree.specs.declared.entry.Entry.{Entry}
 use Rattle.cob_tree.specs.declared.entry.Span.{Span}
@@ -19,9 +19,14 @@ use Rattle.cob_tree.specs.declared.picture.Picture.{Picture}
 use Rattle.cob_tree.specs.declared.picture.Picture.TheVariants as pictures
 use Rattle.cob_tree.specs.declared.picture.Sign.{Sign}
 use Rattle.cob_tree.specs.declared.picture.Sign.TheVariants.{Within, SeparateLeading, SeparateTrailing}
+use Rattle.cob_tree.specs.declared.picture.Usage.{Usage}
+use Rattle.cob_tree.specs.declared.picture.Usage.TheVariants.{Display, Binary, Packed}
 use Rattle.cob_tree.specs.declared.place.Operand.{Operand}
 use Rattle.cob_tree.specs.declared.place.Place.{Place}
 use Rattle.cob_tree.specs.declared.program.Program.{Program}
+use Rattle.edit_fields.specs.declared.fault.MaskFault.{MaskFault}
+use Rattle.edit_fields.specs.Mask.{IsHeldMask}
+use Rattle.edit_fields.specs.Reading.{is_written_out, mask_fault_of}
 use Rattle.cobol_lex.specs.Byte.{is_digit, is_white, is_separator}
 use Rattle.cobol_lex.specs.Picture.{ends_picture}
 use Rattle.cobol_lex.specs.Word.{spells, word_run}
@@ -32,14 +37,15 @@ use Rattle.program_facts.specs.well_scoped.Part.{if_any}
 use Rattle.program_facts.proofs.well_scoped_lemmas.Made.{both}
 use Rattle.unparser.specs.Place.{entry_name}
 use Rattle.cobol_print.specs.units.Picture.{run_text, some_run, part_text, picture_text}
-use Rattle.cobol_print.specs.units.Entry.{level_text, redefines_tokens, sign_tokens, occurs_tokens, value_tokens, thru_operand, span_tokens, spans_tokens, ranges_tokens}
+use Rattle.cobol_print.specs.units.Entry.{level_text, redefines_tokens, usage_tokens, sign_tokens, occurs_tokens, value_tokens, thru_operand, span_tokens, spans_tokens, ranges_tokens}
 use Rattle.cobol_print.specs.units.Division.{select_tokens, status_tokens}
 use Rattle.cobol_print.specs.Given.{IsPrintable, IsGivenPicture, IsGivenFile, IsGivenEntry, file_of}
 use Rattle.cobol_print.specs.Unit.{is_ink}
+use Rattle.cobol_print.proofs.MaskLemmas.{mask-printable}
 use Rattle.round_trip.specs.printable.printable_tokens.Printable.{is_printable_text}
 use Rattle.round_trip.proofs.printable_lemmas.Free.{text-free}
 use Rattle.round_trip.specs.printable.Part.{is_printable_name, is_printable_place, is_printable_operand}
-use Rattle.round_trip.specs.printable.Whole.{is_printable_file, is_printable_picture, is_printable_span, is_printable_count, is_printable_entry}
+use Rattle.round_trip.specs.printable.Whole.{is_printable_file, is_capital, is_printable_mask, is_printable_picture, is_printable_span, is_printable_count, is_printable_entry}
 use Rattle.round_trip.proofs.printable_lemmas.Tokens.{Fits, none, word, printable-name, entry-free, entry-fine, ◌∷∷◌, ◌+++◌}
 use Rattle.round_trip.proofs.printable_lemmas.Places as places
 use Rattle.round_trip.proofs.printable_lemmas.Statements.{HasNames}
@@ -155,18 +161,15 @@ sign-symbols : (signed : Bool) → AreSymbols 1 (if signed then codes "S" else [
 sign-symbols true = record { symbols = refl; few = omega arith }
 sign-symbols false = none-symbols 1
 
-picture-symbols : (picture : Picture) → is_printable_picture picture ≡ true → AreSymbols 18 (picture_text picture)
-picture-symbols (pictures.Number signed whole part) h =
-    let e = and_parts (nat_le 1 (whole + part)) (nat_le (whole + part) 18) h in
-    let few : whole + part ≤ 18 = leb-true (whole + part) 18 e.1 in
+number-symbols : (signed : Bool) (whole part : ℕ) → whole + part ≤ 18 → AreSymbols 18 (picture_text (pictures.Number signed whole part))
+number-symbols signed whole part few =
     symbols-beside 9 9 _ (part_text part)
     (symbols-beside 1 8 _ (some_run whole) (sign-symbols signed) (some-symbols whole (omega (arith, few))))
     (part-symbols part (omega (arith, few)))
-picture-symbols (pictures.Letters count) h =
-    let run = run-symbols (byte "A") count refl (leb-true count 65535 (and_parts (nat_le 1 count) (nat_le count 65535) h).1) in
-    record { symbols = run.symbols; few = omega (arith, run.few) }
-picture-symbols (pictures.Any count) h =
-    let run = run-symbols (byte "X") count refl (leb-true count 65535 (and_parts (nat_le 1 count) (nat_le count 65535) h).1) in
+
+text-symbols : (symbol count : ℕ) → is_symbol symbol ≡ true → (nat_le 1 count && nat_le count 65535) ≡ true → AreSymbols 18 (run_text symbol count)
+text-symbols symbol count s h =
+    let run = run-symbols symbol count s (leb-true count 65535 (and_parts (nat_le 1 count) (nat_le count 65535) h).1) in
     record { symbols = run.symbols; few = omega (arith, run.few) }
 
 behind-some : (front back : List ℕ) → 0 < length back → 0 < length (front ++ back)
@@ -188,12 +191,6 @@ number-some sign zero part h =
 number-some sign (suc whole) part h =
     before-some (sign ++ some_run (suc whole)) (part_text part)
     (behind-some sign (some_run (suc whole)) (counted-some (suc whole) (run_text (byte "9") (suc whole)) (omega arith) (omega arith)))
-
-picture-some : (picture : Picture) → is_printable_picture picture ≡ true → 0 < length (picture_text picture)
-picture-some (pictures.Number signed whole part) h =
-    number-some (if signed then codes "S" else []) whole part (leb-true 1 (whole + part) (and_parts (nat_le 1 (whole + part)) (nat_le (whole + part) 18) h).0)
-picture-some (pictures.Letters count) h = omega arith
-picture-some (pictures.Any count) h = omega arith
 
 one-more : (n b : ℕ) (text : List ℕ) → take (1 + n) (b ∷ text) ≡ b ∷ take n text
 one-more n b text = let one : 1 + n ≡ suc n = omega arith in ap (λ k. take k (b ∷ text)) one
@@ -229,9 +226,33 @@ printable text h some =
       other = is-other text h.symbols;
     }
 
+-- a mask as a program holds it
+held : (mask : List ℕ) → is_printable_mask mask ≡ true → IsHeldMask mask × ((slice_index mask 0 == comma) ≡ false)
+held mask h =
+    let e = and_parts (not (is_some (mask_fault_of mask)) && is_written_out mask && list_all is_capital mask) (not (slice_index mask 0 == comma)) h in
+    let f = and_parts (not (is_some (mask_fault_of mask)) && is_written_out mask) (list_all is_capital mask) e.0 in
+    let g = and_parts (not (is_some (mask_fault_of mask))) (is_written_out mask) f.0 in
+    (record { is_mask = record { no_fault = none (mask_fault_of mask) g.0; written_out = g.1 }; capitals = capitals mask f.1 }, not-true (slice_index mask 0 == comma) e.1)
+  where
+    none : (o : Option MaskFault) → not (is_some o) ≡ true → o ≡ None
+    none None e = refl
+    none (Some fault) e = absurd cc
+
+    capitals : (mask : List ℕ) → list_all is_capital mask ≡ true → map to_ascii_uppercase mask ≡ mask
+    capitals [] e = refl
+    capitals (b ∷ mask) e =
+        let k = and_parts (is_capital b) (list_all is_capital mask) e in
+        ap (λ c. c ∷ map to_ascii_uppercase mask) (eqb-true (to_ascii_uppercase b) b k.0) ∙ ap (λ rest. b ∷ rest) (capitals mask k.1)
+
 picture-given : (picture : Option Picture) → if_any is_printable_picture picture ≡ true → IsGivenPicture picture
 picture-given None h = tt
-picture-given (Some picture) h = printable (picture_text picture) (picture-symbols picture h) (picture-some picture h)
+picture-given (Some (pictures.Number signed whole part)) h =
+    let e = and_parts (nat_le 1 (whole + part)) (nat_le (whole + part) 18) h in
+    printable (picture_text (pictures.Number signed whole part)) (number-symbols signed whole part (leb-true (whole + part) 18 e.1))
+    (number-some (if signed then codes "S" else []) whole part (leb-true 1 (whole + part) e.0))
+picture-given (Some (pictures.Letters count)) h = printable (picture_text (pictures.Letters count)) (text-symbols (byte "A") count refl h) (omega arith)
+picture-given (Some (pictures.Any count)) h = printable (picture_text (pictures.Any count)) (text-symbols (byte "X") count refl h) (omega arith)
+picture-given (Some (pictures.Edited mask)) h = let k = held mask h in mask-printable mask k.0 k.1
 
 -- ---- files
 
@@ -257,6 +278,11 @@ module _ (program : Program) (names : HasNames program) where
   redefines-free : (number : Option ℕ) → Fits (redefines_tokens program number)
   redefines-free None = none
   redefines-free (Some number) = word (codes "REDEFINES") refl ∷∷ names.items number ∷∷ none
+
+  usage-free : (usage : Usage) → Fits (usage_tokens usage)
+  usage-free Display = none
+  usage-free Binary = word (codes "BINARY") refl ∷∷ none
+  usage-free Packed = word (codes "PACKED-DECIMAL") refl ∷∷ none
 
   sign-free : (sign : Sign) → Fits (sign_tokens sign)
   sign-free Within = none
@@ -305,5 +331,5 @@ module _ (program : Program) (names : HasNames program) where
         file = (file_of-free entry.file).free;
         front = (front-free entry h).free;
         picture = picture-given entry.picture fine.picture;
-        back = (sign-free entry.sign +++ (occurs-free entry.occurs fine.occurs +++ (value-free entry.value fine.value +++ ranges-free entry.ranges fine.ranges))).free;
+        back = (usage-free entry.usage +++ (sign-free entry.sign +++ (occurs-free entry.occurs fine.occurs +++ (value-free entry.value fine.value +++ ranges-free entry.ranges fine.ranges)))).free;
       }

@@ -17,7 +17,7 @@ use Rattle.cobol_grammar.specs.expr_forms.Fault.{compared_as, is_condition, cond
 use Rattle.cobol_grammar.specs.Use.{known_of, record_kind, moved_fault, compared_fault, subject_fault}
 use Rattle.round_trip.specs.spelling.expr_spelling.Printable.{Judged, judged_expr, judged_operand}
 use Rattle.round_trip.specs.spelling.expr_spelling.Spelled.{IsKnownAs}
-use Rattle.round_trip.proofs.spelling_lemmas.expr_spelling_lemmas.Exprs.{number-free, whole-none, whole-free}
+use Rattle.round_trip.proofs.spelling_lemmas.expr_spelling_lemmas.Exprs.{number-free, result-free, whole-none, whole-free}
 use Rattle.round_trip.specs.spelling.cond_spelling.Printable.{is_plain, kinds_suit}
 use Rattle.round_trip.proofs.spelling_lemmas.cond_spelling_lemmas.Relations.{value-free}
 use Rattle.round_trip.specs.spelling.Use.{MayMove, MayCompare, OperandIsFree, ExprIsFree}
@@ -70,6 +70,7 @@ module _ (names : Names) (entries : List Entry) (table : ProcedureTable) (progra
       record {
         value = λ e side h. value-free j side h.known e;
         number = λ e side h. number-free j side h.known e;
+        result = λ e side h. result-free j side h.known e;
         whole = λ e side h. whole-free j side h.known e;
         condition = λ e side h. condition-free j side h.known e;
         into = λ file m side h. move-free makes.Item makes.Item (record_kind entries file) j.kind (record_kind entries file) side.kind side.position refl refl h.known.kind m;

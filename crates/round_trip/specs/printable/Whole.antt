@@ -1,7 +1,11 @@
 -- Programs that can be printed: their names are words in capitals that aren't reserved, their
 -- numbers have 1 to 18 digits, their literals 1 to 160 bytes without control characters, and their
--- pictures as many symbols as a picture can have.
-use Rattle.std.specs.Prelude.{ℕ, ◌≡◌, ◌^◌, ◌+◌, nat_le, nat_lt, Bool, true, ◌&&◌, List, map, Option, Some, None}
+-- pictures as many symbols as a picture can have, or a mask.
+use Rattle.std.specs.Prelude.{ℕ, ◌≡◌, ◌^◌, ◌+◌, ◌==◌, nat_le, nat_lt, Bool, true, not, ◌&&◌, List, map, slice_index, Option, Some, None}
+use Rattle.std.specs.Char.{to_ascii_uppercase}
+use Rattle.std.specs.List.{list_all}
+use Rattle.std.specs.Option.{is_some}
+use Rattle.cob_base.specs.Bytes.{comma}
 use Rattle.cob_tree.specs.declared.entry.Entry.{Entry}
 use Rattle.cob_tree.specs.declared.entry.Span.{Span}
 use Rattle.cob_tree.specs.declared.file.FileEntry.{FileEntry}
@@ -9,6 +13,7 @@ use Rattle.cob_tree.specs.declared.picture.Picture.{Picture}
 use Rattle.cob_tree.specs.declared.picture.Picture.TheVariants as pictures
 use Rattle.cob_tree.specs.declared.program.Paragraph.{Paragraph}
 use Rattle.cob_tree.specs.declared.program.Program.{Program}
+use Rattle.edit_fields.specs.Reading.{is_written_out, mask_fault_of}
 use Rattle.control_flow_theory.specs.language.All.{all}
 use Rattle.program_facts.specs.well_scoped.Part.{if_any}
 use Rattle.grammar_laws.specs.form_results.Giving.{Each}
@@ -25,12 +30,24 @@ is_printable_file file =
     is_printable_name file.name && is_printable_text file.assign
     && if_any is_printable_place file.status
 
+-- the letter is a capital
+abbrev pub is_capital : ℕ → Bool
+is_capital byte = to_ascii_uppercase byte == byte
+
+-- a mask can be printed: its counts are written out, its letters are capitals, and it doesn't begin
+-- with a comma, which would be taken for one before the picture
+abbrev pub is_printable_mask : List ℕ → Bool
+is_printable_mask mask =
+    not (is_some (mask_fault_of mask)) && is_written_out mask && list_all is_capital mask
+    && not (slice_index mask 0 == comma)
+
 -- a picture can be printed: a number has 1 to 18 digits, a text up to 65,535 characters
 abbrev pub is_printable_picture : Picture → Bool
 is_printable_picture (pictures.Number signed whole part) =
     nat_le 1 (whole + part) && nat_le (whole + part) 18
 is_printable_picture (pictures.Letters count) = nat_le 1 count && nat_le count 65535
 is_printable_picture (pictures.Any count) = nat_le 1 count && nat_le count 65535
+is_printable_picture (pictures.Edited mask) = is_printable_mask mask
 
 -- a value or a range of values can be printed
 abbrev pub is_printable_span : Span → Bool

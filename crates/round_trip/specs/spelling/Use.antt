@@ -12,11 +12,11 @@ use Rattle.cobol_grammar.specs.declared.expr_forms.side.ExprContent.{ExprContent
 use Rattle.cobol_grammar.specs.declared.expr_forms.side.ExprContent.TheVariants as makes
 use Rattle.cobol_grammar.specs.declared.expr_forms.side.Side.{Side}
 use Rattle.cobol_grammar.specs.declared.expr_forms.side.ValueKind.{ValueKind}
-use Rattle.cobol_grammar.specs.expr_forms.Fault.{compared_as, is_condition, kind_of, value_fault, number_fault, whole_fault, condition_fault}
+use Rattle.cobol_grammar.specs.expr_forms.Fault.{compared_as, is_condition, kind_of, value_fault, number_fault, result_fault, whole_fault, condition_fault}
 use Rattle.cobol_grammar.specs.Use.{known_of, record_kind, moved_fault, move_fault, into_fault, subject_fault}
 use Rattle.cobol_grammar.specs.Whole.{parts_of}
 use Rattle.round_trip.specs.spelling.stmt_spelling.Part.{Without, WithoutExpr, MovesTo}
-use Rattle.round_trip.specs.spelling.expr_spelling.Printable.{Judged, is_number, is_counting, judged_expr, judged_operand, reference}
+use Rattle.round_trip.specs.spelling.expr_spelling.Printable.{Judged, is_number, takes_result, is_counting, judged_expr, judged_operand, reference}
 use Rattle.round_trip.specs.spelling.cond_spelling.Printable.{kinds_suit}
 use Rattle.round_trip.specs.spelling.Kept.{IsEntrySide, kept_of}
 use Rattle.round_trip.specs.spelling.expr_spelling.Spelled.{IsExprSide, IsOperandSide}
@@ -41,6 +41,10 @@ module _ (names : Names) (entries : List Entry) (table : ProcedureTable) (progra
     pub number : is_number (judged_operand names program operand).kind ≡ true →
         Without (parts_of names entries table) (kept_of names program) program
         (λ side. number_fault side) operand
+    -- as what takes a result, where it may
+    pub result : takes_result (judged_operand names program operand).kind ≡ true →
+        Without (parts_of names entries table) (kept_of names program) program
+        (λ side. result_fault side) operand
     -- as a number without decimals, where it is one
     pub whole : is_counting (judged_operand names program operand).kind ≡ true →
         Without (parts_of names entries table) (kept_of names program) program

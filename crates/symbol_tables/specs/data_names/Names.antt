@@ -14,9 +14,10 @@ pub record Names : Type 0 where
   pub items : List Name
   pub files : List (List ℕ)
 
--- the kind of an item with this picture; a number may be whole
+-- the kind of an item with this picture: a number, which may be whole, an edited item, or text
 abbrev pub picture_kind : Option Picture → ItemKind
 picture_kind (Some (pictures.Number signed whole part)) = kinds.Number (part == 0)
+picture_kind (Some (pictures.Edited mask)) = kinds.Edited
 picture_kind _ = kinds.Text
 
 -- the entry is an item of a record with items below it

@@ -9,6 +9,8 @@ pub enum ItemKind {
     Number { whole: bool },
     /// An elementary item of characters.
     Text,
+    /// An item that shows a number through a mask.
+    Edited,
     /// An item with items below it.
     Group,
     /// The name of a level 88.

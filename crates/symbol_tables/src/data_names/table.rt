@@ -119,6 +119,7 @@ fn picture_kind(picture: Option<Picture>) -> ItemKind
 {
     match picture {
         Some(Picture::Number { part, .. }) => ItemKind::Number { whole: part == 0 },
+        Some(Picture::Edited(_)) => ItemKind::Edited,
         _ => ItemKind::Text,
     }
 }

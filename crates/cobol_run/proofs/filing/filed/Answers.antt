@@ -14,11 +14,11 @@ returns-in-Closes-clause-over g c = λ world outer over.
 
 pub returns-in-Write-clause-over : goal.returns-in-Write-clause-over
 returns-in-Write-clause-over g c = λ world outer over.
-    written_over (declared_by c.args.plan.now) c.args.stmt.now c.args.held.now.store world _ c.written.result c.written.new.store _ _ c.args.frames.now _ _ _ c.as_ref-from.ensures.value c.in-Write.is (c.written.ensures.does world over)
+    written_over (declared_by c.args.plan.now) c.args.stmt.now c.args.held.now.store world _ c.written.result c.written.new.store _ _ c.args.frames.now _ _ _ c.as_ref.ensures.value c.in-Write.is (c.written.ensures.does world over)
 
 pub returns-in-Rewrite-clause-over : goal.returns-in-Rewrite-clause-over
 returns-in-Rewrite-clause-over g c = λ world outer over.
-    rewritten_over (declared_by c.args.plan.now) c.args.stmt.now c.args.held.now.store world _ c.rewritten.result c.rewritten.new.store _ _ c.args.frames.now _ _ _ c.as_ref-from-in-Rewrite.ensures.value c.in-Rewrite.is (c.rewritten.ensures.does world over)
+    rewritten_over (declared_by c.args.plan.now) c.args.stmt.now c.args.held.now.store world _ c.rewritten.result c.rewritten.new.store _ _ c.args.frames.now _ _ _ c.as_ref-in-Rewrite.ensures.value c.in-Rewrite.is (c.rewritten.ensures.does world over)
 
 pub returns-in_ok-done-in-Read-clause-over : goal.returns-in_ok-done-in-Read-clause-over
 returns-in_ok-done-in-Read-clause-over g c = λ world outer over.
@@ -34,11 +34,11 @@ returns-in-Closes-clause-breaks g c = λ world outer over.
 
 pub returns-in-Write-clause-breaks : goal.returns-in-Write-clause-breaks
 returns-in-Write-clause-breaks g c = λ world outer over.
-    written_break (declared_by c.args.plan.now) c.args.stmt.now c.args.held.now.store world _ c.written.result _ _ _ _ _ _ c.as_ref-from.ensures.value c.in-Write.is (c.written.ensures.breaks world over)
+    written_break (declared_by c.args.plan.now) c.args.stmt.now c.args.held.now.store world _ c.written.result _ _ _ _ _ _ c.as_ref.ensures.value c.in-Write.is (c.written.ensures.breaks world over)
 
 pub returns-in-Rewrite-clause-breaks : goal.returns-in-Rewrite-clause-breaks
 returns-in-Rewrite-clause-breaks g c = λ world outer over.
-    rewritten_break (declared_by c.args.plan.now) c.args.stmt.now c.args.held.now.store world _ c.rewritten.result _ _ _ _ _ _ c.as_ref-from-in-Rewrite.ensures.value c.in-Rewrite.is (c.rewritten.ensures.breaks world over)
+    rewritten_break (declared_by c.args.plan.now) c.args.stmt.now c.args.held.now.store world _ c.rewritten.result _ _ _ _ _ _ c.as_ref-in-Rewrite.ensures.value c.in-Rewrite.is (c.rewritten.ensures.breaks world over)
 
 pub returns-in_ok-done-in-Read-clause-breaks : goal.returns-in_ok-done-in-Read-clause-breaks
 returns-in_ok-done-in-Read-clause-breaks g c = λ world outer over.

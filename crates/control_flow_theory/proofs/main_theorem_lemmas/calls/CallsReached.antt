@@ -1,4 +1,5 @@
--- Where a free flow path of a range's level comes to a PERFORM, a reached node of the range performs that range.
+-- Where a free flow path of a range's level comes to a PERFORM, a reached node of the range performs that range, and
+-- where one comes to its end, a reached node returns.
 use Rattle.std.proofs.Common.{◌≡◌, ℕ, zero, suc, ◌+◌, ◌<◌, Bool, true, false, if◌then◌else◌, List, [], ◌∷◌, refl, ap, sym, ◌∙◌, subst, arith, inl, inr, Some}
 use Rattle.std.specs.Prelude.{slice_get, length}
 use Rattle.control_flow_theory.specs.semantics.Doing.{arm_of}
@@ -21,6 +22,9 @@ use Rattle.control_flow_theory.specs.lowering.flow.Entered.{FreelyComes, IsEnter
 use Rattle.control_flow_theory.specs.rendering.Procedures.{stmt_calls, stmts_call, arms_call, body_calls}
 use Rattle.control_flow_theory.specs.main_theorem.Chain.{TreeCalls, EndCalls, TreesCall}
 use Rattle.control_flow_theory.specs.main_theorem.CallsReached.{GivesSome, WhatIsCalledStands}
+use Rattle.control_flow_theory.specs.structuring.Dispatches.{either, end_returns, tree_returns, trees_return}
+use Rattle.control_flow_theory.specs.lowering.WellFormed.{IsRangeOf}
+use Rattle.control_flow_theory.proofs.semantics_lemmas.Ranges.{eq-self}
 use Rattle.control_flow_theory.proofs.semantics_lemmas.Ranges.{same-self}
 use Rattle.control_flow_theory.proofs.lowering_lemmas.rests.Fits.{FitsIn, comes-fits, rest-fits}
 use Rattle.control_flow_theory.proofs.lowering_lemmas.rests.Counters.{has-left, has-right, has-after, has-behind, has-turn, past-items, loop-items, items-from, items-uncut, has-uncut, built-uncut}
@@ -101,7 +105,15 @@ module _ (told : FlowFacts) (program : Program) (source : IsSource told program)
   abbrev pub Stands : ℕ → ℕ → Type 0
   Stands e x = (l : Label) × IsReached family range l × TreeCalls (Part e x) (graph l)
 
-  -- Each PERFORM stands in a reached node, and each jump leads to one.
+  -- a reached node returns
+  abbrev pub Returns : Type 0
+  Returns = (l : Label) × IsReached family range l × (tree_returns (graph l) ≡ true)
+
+  either-right : (a b : Bool) → b ≡ true → either a b ≡ true
+  either-right true b h = refl
+  either-right false b h = h
+
+  -- Each PERFORM and each return stands in a reached node, and each jump leads to one.
   abbrev mutual
     FineStmt : Stmt → Type 0
     FineStmt (language.Do act) = Unit {0}
@@ -133,7 +145,7 @@ module _ (told : FlowFacts) (program : Program) (source : IsSource told program)
     FineEnd : End → Type 0
     FineEnd (Pick picker arms) = FineTrees arms
     FineEnd (Jump to) = IsReached family range to
-    FineEnd Return = Unit {0}
+    FineEnd Return = Returns
     FineEnd Stop = Unit {0}
     FineEnd Dead = Unit {0}
 
@@ -178,26 +190,26 @@ module _ (told : FlowFacts) (program : Program) (source : IsSource told program)
     body-all (Performed e x) h = h e x (same-self (Part e x))
 
   mutual
-    end-all : (end : End) → ((e x : ℕ) → EndCalls (Part e x) end → Stands e x) → ((to : Label) → JumpsTo to end → IsReached family range to) → FineEnd end
-    end-all (Pick picker arms) h g = trees-all arms h g
-    end-all (Jump to) h g = g to refl
-    end-all Return h g = tt
-    end-all Stop h g = tt
-    end-all Dead h g = tt
+    end-all : (end : End) → ((e x : ℕ) → EndCalls (Part e x) end → Stands e x) → ((to : Label) → JumpsTo to end → IsReached family range to) → (end_returns end ≡ true → Returns) → FineEnd end
+    end-all (Pick picker arms) h g k = trees-all arms h g k
+    end-all (Jump to) h g k = g to refl
+    end-all Return h g k = k refl
+    end-all Stop h g k = tt
+    end-all Dead h g k = tt
 
-    trees-all : (ts : Trees) → ((e x : ℕ) → TreesCall (Part e x) ts → Stands e x) → ((to : Label) → ArmsJumpTo to ts → IsReached family range to) → FineTrees ts
-    trees-all no_more h g = tt
-    trees-all (more (tree body end) others) h g = (
-      stmts-all body (λ e x k. h e x (inl (inl k))),
-      end-all end (λ e x k. h e x (inl (inr k))) (λ to j. g to (inl j)),
-      trees-all others (λ e x k. h e x (inr k)) (λ to j. g to (inr j)),
+    trees-all : (ts : Trees) → ((e x : ℕ) → TreesCall (Part e x) ts → Stands e x) → ((to : Label) → ArmsJumpTo to ts → IsReached family range to) → (trees_return ts ≡ true → Returns) → FineTrees ts
+    trees-all no_more h g k = tt
+    trees-all (more (tree body end) others) h g k = (
+      stmts-all body (λ e x c. h e x (inl (inl c))),
+      end-all end (λ e x c. h e x (inl (inr c))) (λ to j. g to (inl j)) (λ r. k (ap (λ b. either b (trees_return others)) r)),
+      trees-all others (λ e x c. h e x (inr c)) (λ to j. g to (inr j)) (λ r. k (either-right (end_returns end) (trees_return others) r)),
     )
 
-  tree-all : (t : Tree) → ((e x : ℕ) → TreeCalls (Part e x) t → Stands e x) → ((to : Label) → JumpsTo to (end_of t) → IsReached family range to) → FineTree t
-  tree-all (tree body end) h g = (stmts-all body (λ e x k. h e x (inl k)), end-all end (λ e x k. h e x (inr k)) g)
+  tree-all : (t : Tree) → ((e x : ℕ) → TreeCalls (Part e x) t → Stands e x) → ((to : Label) → JumpsTo to (end_of t) → IsReached family range to) → (tree_returns t ≡ true → Returns) → FineTree t
+  tree-all (tree body end) h g k = (stmts-all body (λ e x c. h e x (inl c)), end-all end (λ e x c. h e x (inr c)) g k)
 
   fine-at : (l : Label) → IsReached family range l → FineTree (graph l)
-  fine-at l r = tree-all (graph l) (λ e x k. (l, r, k)) (λ to j. jumped l to r j)
+  fine-at l r = tree-all (graph l) (λ e x k. (l, r, k)) (λ to j. jumped l to r j) (λ k. (l, r, k))
 
   first-fine : (s : Stmt) (t : Tree) → FineTree (with_first s t) → FineStmt s × FineTree t
   first-fine s (tree body end) h = (h.0.0, (h.0.1, h.1))
@@ -560,3 +572,14 @@ pub called-stands : WhatIsCalledStands
 called-stands = λ told program source some returning range lt here entry exit called.
     (good-next told program source some range called.0 (Do (Perform entry exit) ∷ called.1) (come-good told program source some returning range called.0 (Do (Perform entry exit) ∷ called.1) called.2 lt here)
     (fit-here told program source some returning range called.0 (Do (Perform entry exit) ∷ called.1) called.2) []).0
+
+-- at its exit the range returns
+exit-returns : (program : Program) (e x : ℕ) → paragraph_end_target (place_in program) program (Part e x) x ≡ Return
+exit-returns program e x = ap (λ b. if b then Return else fall_leaf (place_in program) x (slice_get program.paragraphs (suc x))) (eq-self x)
+
+pub returns-stand : (told : FlowFacts) (program : Program) → IsSource told program → GivesSome told → NamesWhatReturns told program → (entry exit : ℕ) → IsRangeOf program (Part entry exit) → IsEntered told program (Part entry exit) → FreelyComes told program (Part entry exit) exit [] → (label : Label) × IsReached (lowered told program) (Part entry exit) label × (tree_returns ((lowered told program).node (Part entry exit) label) ≡ true)
+returns-stand = λ told program source some returning entry exit lt here comes.
+    let range = Part entry exit in
+    let end = good-next told program source some range exit [] (come-good told program source some returning range exit [] comes lt here)
+    (fit-here told program source some returning range exit [] comes) in
+    subst (FineEnd told program source some range) (exit-returns program entry exit) end

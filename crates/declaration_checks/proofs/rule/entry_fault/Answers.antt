@@ -11,4 +11,4 @@ nesting_at-holder-requires c = found_within c.args.bases.now c.as_slice.result.n
 pub returns : goal.returns
 returns c =
     let m = found_nesting c.args.bases.now c.as_slice.result.now c.args.at c.args.entry.now c.nesting_at-holder.result (c.as_slice.ensures ∙ ap (λ (t : Tables). t.nestings) c.requires.table) c.requires.own c.nesting_at-holder.ensures in
-    c.held_fault.ensures ∙ ap (λ (m : Nesting). held_fault c.args.bases.now c.args.sizes.now c.args.at c.args.entry.now c.args.draft.now m.holder) m
+    c.held_fault.ensures ∙ ap (λ (m : Nesting). held_fault c.args.bases.now c.args.sizes.now c.args.tables.now.usages c.args.at c.args.entry.now c.args.draft.now m.holder) m

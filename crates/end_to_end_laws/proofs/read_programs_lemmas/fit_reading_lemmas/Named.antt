@@ -17,7 +17,7 @@ use Rattle.cobol_theory.specs.added_items.Own.{items, has_record}
 use Rattle.cobol_theory.proofs.added_items_lemmas.Layouts.{inside-of}
 use Rattle.program_facts.proofs.well_scoped_lemmas.Made.{both}
 use Rattle.grammar_laws.specs.well_scoped.named_entries.Entries as named
-use Rattle.grammar_laws.specs.whole_counts.entry_bounds.Bounds.{is_within, sign_suits, is_pictured, is_in, has_file}
+use Rattle.grammar_laws.specs.whole_counts.entry_bounds.Bounds.{is_within, sign_suits, usage_suits, is_pictured, is_in, has_file}
 use Rattle.cobol_theory.specs.fit_programs.Fit.{sign_fits, entry_fits}
 
 -- ---- items
@@ -65,10 +65,12 @@ sign-fits sign (Some (pictures.Number signed whole part)) e = by_sign sign e
     by_sign SeparateTrailing e = e
 sign-fits sign (Some (pictures.Letters count)) e = refl
 sign-fits sign (Some (pictures.Any count)) e = refl
+sign-fits sign (Some (pictures.Edited mask)) e = refl
 
 entry-fits : (entry : Entry) → is_pictured entry ≡ true → entry_fits entry ≡ true
 entry-fits entry e =
-    let h = and_parts (not (entry.level == 88 && is_some entry.picture)) (sign_suits entry.sign entry.picture) e in
+    let g = and_parts (not (entry.level == 88 && is_some entry.picture) && sign_suits entry.sign entry.picture) (usage_suits entry.usage entry.sign entry.picture) e in
+    let h = and_parts (not (entry.level == 88 && is_some entry.picture)) (sign_suits entry.sign entry.picture) g.0 in
     both h.0 (sign-fits entry.sign entry.picture h.1)
 
 pub entries-fit : (entries : List Entry) → all (map is_pictured entries) ≡ true → all (map entry_fits entries) ≡ true

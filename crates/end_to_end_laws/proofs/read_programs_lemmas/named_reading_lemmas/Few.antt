@@ -3,6 +3,7 @@ use Rattle.std.proofs.Common.{◌≡◌, ℕ, zero, suc, ◌+◌, ◌≤◌, Boo
 use Rattle.std.specs.Prelude.{codes, slice_get}
 use Rattle.std.specs.List.{fold}
 use Rattle.cob_tree.specs.declared.entry.Entry.{Entry}
+use Rattle.cob_tree.specs.declared.picture.Usage.{Usage}
 use Rattle.cob_tree.specs.declared.place.Place.{Place}
 use Rattle.cobol_lex.specs.declared.token.TokenKind.{TokenKind}
 use Rattle.parser_combinators.specs.Form as form
@@ -19,7 +20,7 @@ use Rattle.cobol_grammar.specs.data_forms.Data as datas
 use Rattle.cobol_grammar.specs.data_forms.Divisions as all_forms
 use Rattle.cobol_grammar.proofs.data_forms_lemmas.EntryLaws as entry_law
 use Rattle.cobol_grammar.proofs.data_forms_lemmas.DivisionLaws as law
-use Rattle.declaration_checks.specs.Declaring.{settled, settled_at, settle, settle_all, settle_records, bases_of, entries_of}
+use Rattle.declaration_checks.specs.Declaring.{settled, settled_at, settle, settle_all, settle_records, bases_of, usages_in, entries_of}
 
 -- A form that is begun with so much has no more behind it than that and a token for each one more.
 record Takes {A : Type 0} (n : ℕ) (f : Form A) (size : A → ℕ) : Type 0 where
@@ -158,15 +159,15 @@ divisions S = any law.identification >>= (λ name. any (law.environment S) >>= (
 
 -- ---- entries as they are declared
 
-settle-few : (bases entries : List Entry) (draft : EntryDraft) (o : Option Entry) → length (settled_at bases entries draft o) ≤ length entries + 1
-settle-few bases entries draft None = omega (arith)
-settle-few bases entries draft (Some entry) = let next : Entry = settled bases (length entries) draft entry in let k = length-append entries (next ∷ []) in omega (arith, k)
+settle-few : (bases : List Entry) (usages : List (Option Usage)) (entries : List Entry) (draft : EntryDraft) (o : Option Entry) → length (settled_at bases usages entries draft o) ≤ length entries + 1
+settle-few bases usages entries draft None = omega (arith)
+settle-few bases usages entries draft (Some entry) = let next : Entry = settled bases usages (length entries) draft entry in let k = length-append entries (next ∷ []) in omega (arith, k)
 
-all-few : (bases entries : List Entry) (drafts : List EntryDraft) → length (settle_all bases entries drafts) ≤ length entries + length drafts
-all-few bases entries [] = omega (arith)
-all-few bases entries (draft ∷ drafts) =
-    let one = settle-few bases entries draft (slice_get bases (length entries)) in
-    let behind = all-few bases (settle bases entries draft) drafts in
+all-few : (bases : List Entry) (usages : List (Option Usage)) (entries : List Entry) (drafts : List EntryDraft) → length (settle_all bases usages entries drafts) ≤ length entries + length drafts
+all-few bases usages entries [] = omega (arith)
+all-few bases usages entries (draft ∷ drafts) =
+    let one = settle-few bases usages entries draft (slice_get bases (length entries)) in
+    let behind = all-few bases usages (settle bases usages entries draft) drafts in
     omega (arith, one, behind)
 
 through : (start one rest mid end : ℕ) → mid ≤ start + one → end ≤ mid + rest → end ≤ start + (one + rest)
@@ -175,18 +176,19 @@ through start one rest mid end h k = omega (arith, h, k)
 from-none : (one rest mid end : ℕ) → mid ≤ 0 + one → end ≤ mid + rest → end ≤ one + rest
 from-none one rest mid end h k = omega (arith, h, k)
 
-records-few : (bases entries : List Entry) (records : List FdDraft) → length (fold (settle_records bases) entries records) ≤ length entries + held records
-records-few bases entries [] = omega (arith)
-records-few bases entries (one ∷ behind) =
-    through (length entries) (length one.entries) (held behind) (length (settle_all bases entries one.entries)) _
-    (all-few bases entries one.entries) (records-few bases (settle_records bases entries one) behind)
+records-few : (bases : List Entry) (usages : List (Option Usage)) (entries : List Entry) (records : List FdDraft) → length (fold (settle_records bases usages) entries records) ≤ length entries + held records
+records-few bases usages entries [] = omega (arith)
+records-few bases usages entries (one ∷ behind) =
+    through (length entries) (length one.entries) (held behind) (length (settle_all bases usages entries one.entries)) _
+    (all-few bases usages entries one.entries) (records-few bases usages (settle_records bases usages entries one) behind)
 
 entries-few : (found : Divisions) → length (entries_of found) ≤ drafted found.data_part
 entries-few found =
     let bases = bases_of found in
-    let before = fold (settle_records bases) [] found.data_part.fds in
+    let usages = usages_in bases found in
+    let before = fold (settle_records bases usages) [] found.data_part.fds in
     from-none (held found.data_part.fds) (length found.data_part.storage) (length before) _
-    (records-few bases [] found.data_part.fds) (all-few bases before found.data_part.storage)
+    (records-few bases usages [] found.data_part.fds) (all-few bases usages before found.data_part.storage)
 
 -- as many as tokens, at most
 pub few : {status : Form Place} → Law true status → (p : Input) (found : Divisions) (q : Input) → (all_forms.divisions status).reads p ≡ Got found q → length (entries_of found) ≤ length p.rest

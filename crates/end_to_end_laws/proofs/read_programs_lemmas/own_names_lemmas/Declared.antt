@@ -10,7 +10,7 @@ use Rattle.cobol_grammar.specs.declared.data_forms.draft.SelectDraft.{SelectDraf
 use Rattle.symbol_tables.specs.data_names.Grouping.{bound_of, dims_in, group_words, groups_of}
 use Rattle.symbol_tables.specs.data_names.Names.{file_name, file_words, kind_of, name_of, names_from, names_of}
 use Rattle.cob_store.specs.sizes.Size.{sized}
-use Rattle.declaration_checks.specs.Declaring.{section_bases, record_bases, bases_of, settled_by, entries_of, judged_by, files_fault, fault_of, declared_of}
+use Rattle.declaration_checks.specs.Declaring.{section_bases, record_bases, bases_of, usages_in, settled_by, entries_of, judged_by, files_fault, fault_of, declared_of}
 use Rattle.declaration_checks.specs.File.{file_number, file_of, selects_fault, fds_fault}
 use Rattle.end_to_end_laws.specs.read_programs.division_readings.Same.{SameDivisions}
 use Rattle.end_to_end_laws.specs.read_programs.own_names.Laws.{DeclareAlike}
@@ -81,7 +81,7 @@ bare-bases : (draft : Divisions) → bases_of (bare draft) ≡ bases_of draft
 bare-bases draft = ap (λ list. list ++ section_bases None draft.data_part.storage) (bare-records draft.selects 0 draft.data_part.fds)
 
 bare-entries : (draft : Divisions) → entries_of (bare draft) ≡ entries_of draft
-bare-entries draft = ap (λ bases. settled_by bases draft) (bare-bases draft)
+bare-entries draft = ap (λ bases. settled_by bases (usages_in bases draft) draft) (bare-bases draft)
 
 bare-files : (draft : Divisions) → files_fault (bare draft) ≡ files_fault draft
 bare-files draft =
@@ -90,9 +90,9 @@ bare-files draft =
 
 bare-fault : (draft : Divisions) → fault_of (bare draft) ≡ fault_of draft
 bare-fault draft =
-    ap (λ bases. (judged_by bases (sized (entries_of (bare draft))).sizes (record { at = 0; fault = files_fault (bare draft) }) draft).fault) (bare-bases draft)
-    ∙ ap (λ entries. (judged_by (bases_of draft) (sized entries).sizes (record { at = 0; fault = files_fault (bare draft) }) draft).fault) (bare-entries draft)
-    ∙ ap (λ fault. (judged_by (bases_of draft) (sized (entries_of draft)).sizes (record { at = 0; fault = fault }) draft).fault) (bare-files draft)
+    ap (λ bases. (judged_by bases (sized (entries_of (bare draft))).sizes (usages_in bases draft) (record { at = 0; fault = files_fault (bare draft) }) draft).fault) (bare-bases draft)
+    ∙ ap (λ entries. (judged_by (bases_of draft) (sized entries).sizes (usages_in (bases_of draft) draft) (record { at = 0; fault = files_fault (bare draft) }) draft).fault) (bare-entries draft)
+    ∙ ap (λ fault. (judged_by (bases_of draft) (sized (entries_of draft)).sizes (usages_in (bases_of draft) draft) (record { at = 0; fault = fault }) draft).fault) (bare-files draft)
 
 pub declare-alike : (one other : Divisions) → SameDivisions one other → DeclareAlike (declared_of one) (declared_of other)
 declare-alike one other same =

@@ -60,7 +60,7 @@ pub ◌+++◌ : {front back : Tokens} → AreAllowed front → AreAllowed back �
 abbrev own_words : List (List ℕ)
 own_words =
     codes "ADD" ∷ codes "ADVANCING" ∷ codes "AFTER" ∷ codes "ALPHABETIC" ∷ codes "AND" ∷ codes "ANY"
-    ∷ codes "ASSIGN" ∷ codes "AT" ∷ codes "BY" ∷ codes "CLOSE" ∷ codes "COMPUTE" ∷ codes "CONTINUE"
+    ∷ codes "ASSIGN" ∷ codes "AT" ∷ codes "BINARY" ∷ codes "BY" ∷ codes "CLOSE" ∷ codes "COMPUTE" ∷ codes "CONTINUE"
     ∷ codes "CYCLE" ∷ codes "DATA" ∷ codes "DEPENDING" ∷ codes "DISPLAY" ∷ codes "DIVIDE" ∷
     codes "DIVISION" ∷ codes "ELSE" ∷ codes "END" ∷ codes "END-ADD" ∷ codes "END-COMPUTE" ∷
     codes "END-DIVIDE" ∷ codes "END-EVALUATE" ∷ codes "END-IF" ∷ codes "END-MULTIPLY" ∷
@@ -71,7 +71,7 @@ own_words =
     codes "INPUT" ∷ codes "INPUT-OUTPUT" ∷ codes "INTO" ∷ codes "IS" ∷ codes "LEADING" ∷
     codes "LOW-VALUE" ∷ codes "MOVE" ∷ codes "MULTIPLY" ∷ codes "NEGATIVE" ∷ codes "NEXT" ∷
     codes "NO" ∷ codes "NOT" ∷ codes "NUMERIC" ∷ codes "OCCURS" ∷ codes "OF" ∷ codes "ON" ∷
-    codes "OPEN" ∷ codes "OR" ∷ codes "OTHER" ∷ codes "OUTPUT" ∷ codes "PARAGRAPH" ∷ codes "PERFORM"
+    codes "OPEN" ∷ codes "OR" ∷ codes "OTHER" ∷ codes "OUTPUT" ∷ codes "PACKED-DECIMAL" ∷ codes "PARAGRAPH" ∷ codes "PERFORM"
     ∷ codes "PIC" ∷ codes "POSITIVE" ∷ codes "PROCEDURE" ∷ codes "PROGRAM-ID" ∷ codes "QUOTE" ∷
     codes "READ" ∷ codes "REDEFINES" ∷ codes "REWRITE" ∷ codes "ROUNDED" ∷ codes "RUN" ∷
     codes "SECTION" ∷ codes "SELECT" ∷ codes "SENTENCE" ∷ codes "SEPARATE" ∷ codes "SET" ∷

@@ -9,6 +9,8 @@ use Rattle.cob_tree.specs.declared.file.FileEntry.{FileEntry}
 use Rattle.cob_tree.specs.declared.picture.Picture.{Picture}
 use Rattle.cob_tree.specs.declared.picture.Sign.{Sign}
 use Rattle.cob_tree.specs.declared.picture.Sign.TheVariants.{Within, SeparateLeading, SeparateTrailing}
+use Rattle.cob_tree.specs.declared.picture.Usage.{Usage}
+use Rattle.cob_tree.specs.declared.picture.Usage.TheVariants.{Display, Binary, Packed}
 use Rattle.cob_tree.specs.declared.place.Operand.{Operand}
 use Rattle.cob_tree.specs.declared.place.Place.{Place}
 use Rattle.cob_tree.specs.declared.program.Paragraph.{Paragraph}
@@ -21,7 +23,7 @@ use Rattle.program_facts.specs.well_scoped.Part.{if_any}
 use Rattle.cobol_print.specs.declared.units.unit.PrintUnit.{PrintUnit}
 use Rattle.cobol_print.specs.units.Unit.{header, ended}
 use Rattle.cobol_print.specs.units.Picture.{picture_text}
-use Rattle.cobol_print.specs.units.Entry.{level_text, level_column, redefines_tokens, picture_tokens, sign_tokens, occurs_tokens, value_tokens, thru_operand, span_tokens, spans_tokens, ranges_tokens, clauses_tokens, entry_unit}
+use Rattle.cobol_print.specs.units.Entry.{level_text, level_column, redefines_tokens, picture_tokens, usage_tokens, sign_tokens, occurs_tokens, value_tokens, thru_operand, span_tokens, spans_tokens, ranges_tokens, clauses_tokens, entry_unit}
 use Rattle.cobol_print.specs.units.Division.{select_tokens, status_tokens, file_unit, file_units, environment_units, fd_unit, file_section, headers_between, entries_units, data_units, section_line, named_line, sentence_units, paragraph_units, paragraphs_units}
 use Rattle.round_trip.specs.printable.Part.{is_printable_name, is_printable_place, is_printable_operand}
 use Rattle.round_trip.specs.printable.Statement.{is_printable_sentence, are_printable_sentences}
@@ -86,6 +88,11 @@ module _ (program : Program) (names : HasNames program) where
   picture-tokens-allowed None = none
   picture-tokens-allowed (Some picture) = word (codes "PIC") refl ∷∷ picture-allowed (picture_text picture) ∷∷ none
 
+  usage-allowed : (usage : Usage) → AreAllowed (usage_tokens usage)
+  usage-allowed Display = none
+  usage-allowed Binary = word (codes "BINARY") refl ∷∷ none
+  usage-allowed Packed = word (codes "PACKED-DECIMAL") refl ∷∷ none
+
   sign-allowed : (sign : Sign) → AreAllowed (sign_tokens sign)
   sign-allowed Within = none
   sign-allowed SeparateLeading = word (codes "SIGN") refl ∷∷ word (codes "LEADING") refl ∷∷ word (codes "SEPARATE") refl ∷∷ none
@@ -120,7 +127,7 @@ module _ (program : Program) (names : HasNames program) where
   clauses-allowed : (entry : Entry) → is_printable_entry entry ≡ true → AreAllowed (clauses_tokens program entry)
   clauses-allowed entry h =
       let fine = entry-fine entry h in
-      redefines-allowed entry.redefines +++ picture-tokens-allowed entry.picture +++ sign-allowed entry.sign +++ occurs-allowed entry.occurs
+      redefines-allowed entry.redefines +++ picture-tokens-allowed entry.picture +++ usage-allowed entry.usage +++ sign-allowed entry.sign +++ occurs-allowed entry.occurs
       +++ value-allowed entry.value fine.value +++ ranges-allowed entry.ranges fine.ranges
 
   entry-allowed : (entry : Entry) {lines : List PrintUnit} → is_printable_entry entry ≡ true → AllowedLines lines → AllowedLines (entry_unit program entry ∷ lines)

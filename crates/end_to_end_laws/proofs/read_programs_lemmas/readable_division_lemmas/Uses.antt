@@ -27,6 +27,7 @@ value-again : (kind : ValueKind) (p q : Position) → faults.value_fault_at p ki
 value-again values.Condition p q e = absurd cc
 value-again values.Unknown p q e = refl
 value-again values.Text p q e = refl
+value-again values.Edited p q e = refl
 value-again values.Group p q e = refl
 value-again values.Figure p q e = refl
 value-again (values.Number whole) p q e = refl
@@ -36,8 +37,18 @@ number-again (values.Number whole) p q e = refl
 number-again values.Unknown p q e = refl
 number-again values.Condition p q e = absurd cc
 number-again values.Text p q e = absurd cc
+number-again values.Edited p q e = absurd cc
 number-again values.Group p q e = absurd cc
 number-again values.Figure p q e = absurd cc
+
+result-again : (kind : ValueKind) (p q : Position) → faults.result_fault_at p kind ≡ None → faults.result_fault_at q kind ≡ None
+result-again values.Edited p q e = refl
+result-again (values.Number whole) p q e = refl
+result-again values.Unknown p q e = refl
+result-again values.Condition p q e = absurd cc
+result-again values.Text p q e = absurd cc
+result-again values.Group p q e = absurd cc
+result-again values.Figure p q e = absurd cc
 
 whole-again : (kind : ValueKind) (p q : Position) → faults.whole_fault_at p kind ≡ None → faults.whole_fault_at q kind ≡ None
 unfolding faults.whole_fault_at
@@ -46,6 +57,7 @@ whole-again (values.Number false) p q e = absurd cc
 whole-again values.Unknown p q e = refl
 whole-again values.Condition p q e = absurd cc
 whole-again values.Text p q e = absurd cc
+whole-again values.Edited p q e = absurd cc
 whole-again values.Group p q e = absurd cc
 whole-again values.Figure p q e = absurd cc
 
@@ -54,6 +66,7 @@ condition-again values.Condition p q e = refl
 condition-again values.Unknown p q e = refl
 condition-again (values.Number whole) p q e = absurd cc
 condition-again values.Text p q e = absurd cc
+condition-again values.Edited p q e = absurd cc
 condition-again values.Group p q e = absurd cc
 condition-again values.Figure p q e = absurd cc
 
@@ -71,14 +84,16 @@ group-again makes.Joined whole p q e = refl
 number-moved : (make : ExprContent) (whole : Bool) (to : ValueKind) (p q : Position) → uses.number_moved make whole to p ≡ None → uses.number_moved make whole to q ≡ None
 number-moved make whole values.Text p q e = unless-again whole p q e
 number-moved make whole values.Group p q e = group-again make whole p q e
+number-moved make whole values.Edited p q e = refl
 number-moved make whole values.Unknown p q e = refl
 number-moved make whole values.Condition p q e = refl
 number-moved make whole values.Figure p q e = refl
 number-moved make whole (values.Number to) p q e = refl
 
-figure-moved : (to : ValueKind) (p q : Position) → uses.figure_moved to p ≡ None → uses.figure_moved to q ≡ None
+figure-moved : (to : ValueKind) (p q : Position) → uses.to_number_fault to p ≡ None → uses.to_number_fault to q ≡ None
 figure-moved (values.Number whole) p q e = absurd cc
 figure-moved values.Text p q e = refl
+figure-moved values.Edited p q e = refl
 figure-moved values.Group p q e = refl
 figure-moved values.Unknown p q e = refl
 figure-moved values.Condition p q e = refl
@@ -86,6 +101,7 @@ figure-moved values.Figure p q e = refl
 
 moved-again : (make : ExprContent) (from to : ValueKind) (p q : Position) → uses.moved_fault make from to p ≡ None → uses.moved_fault make from to q ≡ None
 moved-again make (values.Number whole) to p q e = number-moved make whole to p q e
+moved-again make values.Edited to p q e = figure-moved to p q e
 moved-again make values.Figure to p q e = figure-moved to p q e
 moved-again make values.Text to p q e = refl
 moved-again make values.Group to p q e = refl
@@ -114,19 +130,23 @@ compared-again (values.Number whole) values.Text kind met make with_make side ne
 compared-again (values.Number whole) values.Figure kind met make with_make side next other last e = absurd cc
 compared-again values.Figure (values.Number whole) kind met make with_make side next other last e = absurd cc
 compared-again (values.Number whole) (values.Number part) kind met make with_make side next other last e = refl
+compared-again (values.Number whole) values.Edited kind met make with_make side next other last e = refl
 compared-again (values.Number whole) values.Group kind met make with_make side next other last e = refl
 compared-again (values.Number whole) values.Unknown kind met make with_make side next other last e = refl
 compared-again (values.Number whole) values.Condition kind met make with_make side next other last e = refl
 compared-again values.Text values.Text kind met make with_make side next other last e = refl
+compared-again values.Text values.Edited kind met make with_make side next other last e = refl
 compared-again values.Text values.Group kind met make with_make side next other last e = refl
 compared-again values.Text values.Figure kind met make with_make side next other last e = refl
 compared-again values.Text values.Unknown kind met make with_make side next other last e = refl
 compared-again values.Text values.Condition kind met make with_make side next other last e = refl
 compared-again values.Figure values.Text kind met make with_make side next other last e = refl
+compared-again values.Figure values.Edited kind met make with_make side next other last e = refl
 compared-again values.Figure values.Group kind met make with_make side next other last e = refl
 compared-again values.Figure values.Figure kind met make with_make side next other last e = refl
 compared-again values.Figure values.Unknown kind met make with_make side next other last e = refl
 compared-again values.Figure values.Condition kind met make with_make side next other last e = refl
+compared-again values.Edited other kind met make with_make side next other_side last e = refl
 compared-again values.Group other kind met make with_make side next other_side last e = refl
 compared-again values.Unknown other kind met make with_make side next other_side last e = refl
 compared-again values.Condition other kind met make with_make side next other_side last e = refl
@@ -159,6 +179,10 @@ module _ (judged : Judged) (side next : Side) (one : IsKnownAs judged side) (oth
   unfolding faults.number_fault
   number-same e = ap (faults.number_fault_at next.leaf) (sym same-kind) ∙ number-again side.kind side.leaf next.leaf e
 
+  result-same : faults.result_fault side ≡ None → faults.result_fault next ≡ None
+  unfolding faults.result_fault
+  result-same e = ap (faults.result_fault_at next.leaf) (sym same-kind) ∙ result-again side.kind side.leaf next.leaf e
+
   whole-same : faults.whole_fault side ≡ None → faults.whole_fault next ≡ None
   whole-same e = ap (faults.whole_fault_at next.position) (sym same-kind) ∙ whole-again side.kind side.position next.position e
 
@@ -173,7 +197,7 @@ module _ (names : Names) (entries : List Entry) (source table : ProcedureTable) 
     number = λ operand side next a b e. number-same _ side next a.known b.known e;
     whole = λ operand side next a b e. whole-same _ side next a.known b.known e;
     condition = λ operand side next a b e. condition-same _ side next a.known b.known e;
-    result = λ operand side next a b e. number-same _ side next a.known b.known e;
+    result = λ operand side next a b e. result-same _ side next a.known b.known e;
     into = λ file operand side next a b e.
         move-same makes.Item makes.Item (record_kind entries file) (record_kind entries file) side.kind next.kind side.position next.position refl refl (same-kind _ side next a.known b.known) e;
     value_expr = λ expr side next a b e. value-same _ side next a.known b.known e;

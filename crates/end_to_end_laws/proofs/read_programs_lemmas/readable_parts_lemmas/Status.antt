@@ -34,6 +34,7 @@ anywhere : (kind : ValueKind) (is : Bool) (one other : Position) → kind_fault 
 anywhere kinds.Unknown is one other e = refl
 anywhere kinds.Text true one other e = refl
 anywhere kinds.Text false one other e = absurd cc
+anywhere kinds.Edited is one other e = absurd cc
 anywhere kinds.Group is one other e = absurd cc
 anywhere kinds.Figure is one other e = absurd cc
 anywhere kinds.Condition is one other e = absurd cc

@@ -26,6 +26,7 @@ told-none : (kind : ValueKind) (is made : Bool) (position : Position) → (is �
 told-none kinds.Unknown is made position h e = refl
 told-none kinds.Text true made position h e = ap (λ b. kind_fault kinds.Text b position) (h refl)
 told-none kinds.Text false made position h e = absurd cc
+told-none kinds.Edited is made position h e = absurd cc
 told-none kinds.Group is made position h e = absurd cc
 told-none kinds.Figure is made position h e = absurd cc
 told-none kinds.Condition is made position h e = absurd cc

@@ -14,7 +14,7 @@ use Rattle.symbol_tables.specs.declared.procedure_names.table.ProcedureTable.{Pr
 use Rattle.cobol_grammar.specs.declared.expr_forms.side.ExprContent.TheVariants as makes
 use Rattle.cobol_grammar.specs.declared.expr_forms.side.Side.{Side}
 use Rattle.cobol_grammar.specs.declared.expr_forms.side.ValueKind.{ValueKind}
-use Rattle.cobol_grammar.specs.expr_forms.Fault.{is_condition, kind_of, value_fault, number_fault, whole_fault, condition_fault}
+use Rattle.cobol_grammar.specs.expr_forms.Fault.{is_condition, kind_of, value_fault, number_fault, result_fault, whole_fault, condition_fault}
 use Rattle.cobol_grammar.specs.expr_forms.Side.{digits_side, expr_of}
 use Rattle.cobol_grammar.specs.stmt_forms.Part.{Parts}
 use Rattle.cobol_grammar.specs.declared.subject_kind.SubjectKind.{SubjectKind}
@@ -23,7 +23,7 @@ use Rattle.cobol_grammar.specs.Whole.{parts_of}
 use Rattle.program_facts.proofs.well_scoped_lemmas.Made.{both}
 use Rattle.grammar_laws.proofs.form_results_lemmas.Giving.{hence}
 use Rattle.round_trip.specs.printable.printable_tokens.Printable.{IsPrintable}
-use Rattle.round_trip.specs.spelling.expr_spelling.Printable.{Judged, is_number, is_counting, IsPrintableOperand}
+use Rattle.round_trip.specs.spelling.expr_spelling.Printable.{Judged, is_number, takes_result, is_counting, IsPrintableOperand}
 use Rattle.round_trip.specs.spelling.expr_spelling.Spelled.{IsKnownAs, IsOperandSide}
 use Rattle.round_trip.proofs.spelling_lemmas.expr_spelling_lemmas.Layers.{judged-Place}
 use Rattle.round_trip.specs.spelling.stmt_spelling.Part.{Kept}
@@ -32,7 +32,7 @@ use Rattle.round_trip.specs.spelling.Named.{IsNamedFile, IsNamedRecord}
 use Rattle.round_trip.specs.procedures.readable_exprs.Laws.{SidesAreReadable}
 use Rattle.round_trip.specs.procedures.readable_exprs.Readable.{IsReadablePlace, IsReadableOperand, IsReadableExpr, IsReadableCond}
 use Rattle.round_trip.proofs.procedures_lemmas.readable_exprs_lemmas.Words.{is_there}
-use Rattle.round_trip.proofs.procedures_lemmas.readable_exprs_lemmas.Known.{number-of, whole-of}
+use Rattle.round_trip.proofs.procedures_lemmas.readable_exprs_lemmas.Known.{number-of, result-of, whole-of}
 use Rattle.round_trip.proofs.procedures_lemmas.readable_exprs_lemmas.Tests.{value-known, condition-known}
 use Rattle.round_trip.proofs.procedures_lemmas.readable_exprs_lemmas.Named.{finds_by}
 use Rattle.round_trip.proofs.procedures_lemmas.readable_exprs_lemmas.Ends as ends
@@ -54,10 +54,15 @@ number-known : (side : Side) → is_there side.kind ≡ true → number_fault si
 unfolding number_fault
 number-known side t n = number-of side.leaf side.kind n t
 
+result-known : (side : Side) → is_there side.kind ≡ true → result_fault side ≡ None → takes_result side.kind ≡ true
+unfolding result_fault
+result-known side t n = result-of side.leaf side.kind n t
+
 -- what a side that stands for something is, by no fault
 record IsFree (judged : Judged) (side : Side) : Type 0 where
   value : value_fault side ≡ None → has_value judged.kind ≡ true
   number : number_fault side ≡ None → is_number judged.kind ≡ true
+  result : result_fault side ≡ None → takes_result judged.kind ≡ true
   whole : whole_fault side ≡ None → is_counting judged.kind ≡ true
   condition : condition_fault side ≡ None → is_condition judged.kind ≡ true
 
@@ -67,6 +72,7 @@ free-by judged side known there =
     record {
       value = λ n. subst (λ k. has_value k ≡ true) known.kind (value-known side n);
       number = λ n. subst (λ k. is_number k ≡ true) known.kind (number-known side t n);
+      result = λ n. subst (λ k. takes_result k ≡ true) known.kind (result-known side t n);
       whole = λ n. subst (λ k. is_counting k ≡ true) known.kind (whole-of side.position side.kind n t);
       condition = λ n. subst (λ k. is_condition k ≡ true) known.kind (condition-known side t n);
     }
@@ -129,7 +135,7 @@ module _ (program : Program) where
         record {
           receives = λ n. both (both h.fit (free.value n)) room;
           number = λ n. both (both h.fit (free.number n)) room;
-          result = λ n. both (both h.fit (free.number n)) room;
+          result = λ n. both (both h.fit (free.result n)) room;
           whole = λ n. both (both h.fit (free.whole n)) room;
           condition = λ n. both (both h.fit (free.condition n)) room;
           into = λ file n. move-known makes.Item makes.Item (record_kind entries file) (record_kind entries file) (own_place program place).kind side.kind side.position refl refl known.kind n;

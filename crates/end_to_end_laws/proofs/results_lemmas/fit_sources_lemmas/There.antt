@@ -28,6 +28,7 @@ use Rattle.round_trip.proofs.procedures_lemmas.readable_exprs_lemmas.Words.{is_t
 
 item-there : (kind : ItemKind) → is_there (item_kind kind) ≡ true
 item-there (items.Number whole) = refl
+item-there items.Edited = refl
 item-there items.Text = refl
 item-there items.Group = refl
 item-there items.Condition = refl

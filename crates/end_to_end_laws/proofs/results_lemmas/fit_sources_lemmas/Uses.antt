@@ -7,7 +7,7 @@ use Rattle.cobol_grammar.specs.declared.expr_forms.side.Side.{Side}
 use Rattle.cobol_grammar.specs.declared.expr_forms.side.ValueKind.{ValueKind}
 use Rattle.cobol_grammar.specs.declared.expr_forms.side.ValueKind.TheVariants as values
 use Rattle.cobol_grammar.specs.expr_forms.Fault.{compared_as, inexact_fault, whole_fault_at}
-use Rattle.cobol_grammar.specs.Use.{known_of, unless_whole, to_group_fault, number_moved, figure_moved, moved_fault, compared_fault, subject_fault}
+use Rattle.cobol_grammar.specs.Use.{known_of, unless_whole, to_group_fault, number_moved, to_number_fault, moved_fault, compared_fault, subject_fault}
 use Rattle.round_trip.specs.spelling.expr_spelling.Printable.{Judged, is_number}
 use Rattle.round_trip.specs.spelling.expr_spelling.Spelled.{IsKnownAs}
 use Rattle.round_trip.specs.spelling.cond_spelling.Printable.{is_plain, kinds_suit}
@@ -30,13 +30,14 @@ number-of make whole values.Text position n = unless-of whole position n
 number-of make whole values.Group position n = group-of make whole position n
 number-of make whole to position n = refl
 
-figure-of : (to : ValueKind) (position : Position) → figure_moved to position ≡ None → not (is_number to) ≡ true
-figure-of (values.Number whole) position n = absurd cc
-figure-of to position n = refl
+unnumbered-of : (to : ValueKind) (position : Position) → to_number_fault to position ≡ None → not (is_number to) ≡ true
+unnumbered-of (values.Number whole) position n = absurd cc
+unnumbered-of to position n = refl
 
 move-of : (make : ExprContent) (from to : ValueKind) (position : Position) → moved_fault make from to position ≡ None → may_move make from to ≡ true
 move-of make (values.Number whole) to position n = number-of make whole to position n
-move-of make values.Figure to position n = figure-of to position n
+move-of make values.Edited to position n = unnumbered-of to position n
+move-of make values.Figure to position n = unnumbered-of to position n
 move-of make from to position n = refl
 
 -- what is known of them is what is judged
@@ -58,8 +59,10 @@ kinds-of : (one other : ValueKind) (left right : Judged) (position : Position) (
     compared_fault (compared_as one) (compared_as other) (record { kind = one; make = left.make; position = position }) (record side { kind = other; make = right.make }) ≡ None →
     kinds_suit (compared_as one) (compared_as other) left right ≡ true
 kinds-of values.Text (values.Number whole) left right position side l r n = subst (λ k. is_plain right.make k ≡ true) (sym r) (plain-of right.make whole side.position n)
+kinds-of values.Edited (values.Number whole) left right position side l r n = subst (λ k. is_plain right.make k ≡ true) (sym r) (plain-of right.make whole side.position n)
 kinds-of values.Group (values.Number whole) left right position side l r n = subst (λ k. is_plain right.make k ≡ true) (sym r) (plain-of right.make whole side.position n)
 kinds-of (values.Number whole) values.Text left right position side l r n = subst (λ k. is_plain left.make k ≡ true) (sym l) (plain-of left.make whole position n)
+kinds-of (values.Number whole) values.Edited left right position side l r n = subst (λ k. is_plain left.make k ≡ true) (sym l) (plain-of left.make whole position n)
 kinds-of (values.Number whole) values.Group left right position side l r n = subst (λ k. is_plain left.make k ≡ true) (sym l) (plain-of left.make whole position n)
 kinds-of (values.Number whole) values.Figure left right position side l r n = absurd cc
 kinds-of values.Figure (values.Number whole) left right position side l r n = absurd cc

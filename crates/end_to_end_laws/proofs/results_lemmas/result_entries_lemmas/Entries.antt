@@ -5,6 +5,7 @@ use Rattle.std.proofs.lemmas.Fmt.{decimal_digit}
 use Rattle.cob_tree.specs.declared.entry.Entry.{Entry}
 use Rattle.cob_tree.specs.declared.picture.Picture.TheVariants as pictures
 use Rattle.cob_tree.specs.declared.picture.Sign.TheVariants.{Within}
+use Rattle.cob_tree.specs.declared.picture.Usage.TheVariants.{Display}
 use Rattle.cob_tree.specs.declared.place.Operand.{Operand}
 use Rattle.cob_tree.specs.declared.place.Operand.TheVariants as operands
 use Rattle.control_flow_theory.specs.graph_rules.Families.{Added, Never, Flag, Count, State, Exit}
@@ -77,6 +78,7 @@ entry-by name digits signed = ap valued zero-alike
       redefines = None;
       picture = Some (pictures.Number signed digits 0);
       sign = Within;
+      usage = Display;
       occurs = None;
       value = Some value;
       ranges = [];

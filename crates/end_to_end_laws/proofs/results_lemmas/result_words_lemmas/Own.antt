@@ -26,7 +26,7 @@ use Rattle.cobol_grammar.specs.declared.expr_forms.side.ValueKind.{ValueKind}
 use Rattle.cobol_grammar.specs.expr_forms.Fault.{item_kind, kind_of, is_condition}
 use Rattle.cobol_grammar.specs.Name.{is_record, is_record_entry}
 use Rattle.cobol_grammar.specs.Use.{is_of_file, record_kind}
-use Rattle.round_trip.specs.spelling.expr_spelling.Printable.{Judged, is_counting, is_number}
+use Rattle.round_trip.specs.spelling.expr_spelling.Printable.{Judged, is_counting, is_number, takes_result}
 use Rattle.round_trip.specs.spelling.cond_spelling.Printable.{cond_fit}
 use Rattle.program_facts.proofs.well_scoped_lemmas.Made.{both}
 use Rattle.round_trip.specs.declarations.added_entries.Items.{WholeItem, whole_entries, HasAdded, AreNew}
@@ -173,7 +173,7 @@ module _ (program made : Program) (items : List WholeItem) (has : HasAdded progr
     turns = operand-passed is_counting;
     receives = place-passed has_value;
     number_place = place-passed is_number;
-    result_place = place-passed is_number;
+    result_place = place-passed takes_result;
     whole_place = place-passed is_counting;
     condition_place = place-passed is_condition;
     moves = moves-passed;

@@ -66,6 +66,7 @@ use Rattle.end_to_end_laws.specs.results.result_words.Words.{whole_item}
 number-is : (kind : ValueKind) → is_number kind ≡ true → (whole : Bool) × (kind ≡ kinds.Number whole)
 number-is (kinds.Number whole) h = (whole, refl)
 number-is kinds.Text h = cc
+number-is kinds.Edited h = cc
 number-is kinds.Group h = cc
 number-is kinds.Figure h = cc
 number-is kinds.Condition h = cc
@@ -77,6 +78,7 @@ number-value kind h = ap has_value (number-is kind h).1
 pub counting-number : (kind : ValueKind) → is_counting kind ≡ true → is_number kind ≡ true
 counting-number (kinds.Number whole) h = refl
 counting-number kinds.Text h = cc
+counting-number kinds.Edited h = cc
 counting-number kinds.Group h = cc
 counting-number kinds.Figure h = cc
 counting-number kinds.Condition h = cc
@@ -104,6 +106,7 @@ number-compares subject other f t =
 windowed-counts : (kind : ValueKind) → is_counting (windowed kind) ≡ true → ⊥
 windowed-counts (kinds.Number whole) h = cc
 windowed-counts kinds.Text h = cc
+windowed-counts kinds.Edited h = cc
 windowed-counts kinds.Group h = cc
 windowed-counts kinds.Figure h = cc
 windowed-counts kinds.Condition h = cc

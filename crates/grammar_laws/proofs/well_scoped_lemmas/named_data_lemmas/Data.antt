@@ -38,10 +38,10 @@ unfolding clauses.picture_clause
 picture_clause = any (entry_law.either (codes "PIC") (codes "PICTURE")) >>= (λ at. maybe (codes "IS") >> (any laws.picture >>= (λ found. pure (λ _ _ _. refl))))
 
 usage_clause : Gives IsNumbered clauses.usage_clause (λ clause. clause_literal clause ≡ true)
-unfolding clauses.usage_clause clauses.usage_behind
+unfolding clauses.usage_clause clauses.usage_behind clauses.usage_alone
 usage_clause =
-    where_next (key (codes "USAGE") >>= (λ at. any (laws.◌>>◌ (laws.maybe (codes "IS")) (laws.key (codes "DISPLAY"))) >> pure (λ _ _. refl)))
-    (key (codes "DISPLAY") >>= (λ at. pure (λ _. refl)))
+    where_next (key (codes "USAGE") >>= (λ at. maybe (codes "IS") >> (any entry_law.usage >>= (λ found. pure (λ _ _ _. refl)))))
+    (any entry_law.usage >>= (λ found. pure (λ _. refl)))
 
 sign_clause : Gives IsNumbered clauses.sign_clause (λ clause. clause_literal clause ≡ true)
 unfolding clauses.sign_clause clauses.sign_behind clauses.side_clause

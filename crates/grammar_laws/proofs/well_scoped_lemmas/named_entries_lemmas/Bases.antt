@@ -40,7 +40,7 @@ spans_in-fine None h = refl
 spans_in-fine (Some (clauses.Value at spans)) h = (and_parts (is_filled spans) (all (map drafts.span_literal spans)) h).1
 spans_in-fine (Some (clauses.Redefines at name name_at)) h = refl
 spans_in-fine (Some (clauses.Picture at text text_at)) h = refl
-spans_in-fine (Some (clauses.Usage at)) h = refl
+spans_in-fine (Some (clauses.Usage at usage)) h = refl
 spans_in-fine (Some (clauses.Sign at leading separate)) h = refl
 spans_in-fine (Some (clauses.Occurs at count count_at)) h = refl
 

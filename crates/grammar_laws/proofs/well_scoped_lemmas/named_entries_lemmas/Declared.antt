@@ -4,6 +4,7 @@ use Rattle.std.specs.Prelude.{◌==◌, nat_le, slice_get}
 use Rattle.std.specs.List.{fold}
 use Rattle.std.proofs.lemmas.Bool.{and_parts, le-leb}
 use Rattle.cob_tree.specs.declared.entry.Entry.{Entry}
+use Rattle.cob_tree.specs.declared.picture.Usage.{Usage}
 use Rattle.parser_combinators.specs.declared.note.NameKind.TheVariants.{Level}
 use Rattle.parser_combinators.specs.declared.note.Note.{Note}
 use Rattle.parser_combinators.specs.Note.{precedes, earliest}
@@ -14,7 +15,7 @@ use Rattle.cobol_grammar.specs.declared.data_forms.draft.SelectDraft.{SelectDraf
 use Rattle.cobol_grammar.specs.declared.data_forms.draft.StatusDraft.{StatusDraft}
 use Rattle.cob_store.specs.sizes.Size.{sized}
 use Rattle.declaration_checks.specs.declared.judging.Judged.{Judged}
-use Rattle.declaration_checks.specs.Declaring.{settled, settled_at, settle, settle_all, settle_records, judged_at, judge, judge_all, judge_records, bases_of, entries_of, start_of, fault_of}
+use Rattle.declaration_checks.specs.Declaring.{settled, settled_at, settle, settle_all, settle_records, judged_at, judge, judge_all, judge_records, bases_of, entries_of, start_of, usages_in, fault_of}
 use Rattle.declaration_checks.specs.File.{status_by, file_of}
 use Rattle.declaration_checks.specs.Fault.{fault_at}
 use Rattle.declaration_checks.specs.Item.{level_stands}
@@ -69,11 +70,11 @@ level-first level h = go (level == 88) refl
         same_number e = grind (arith, tests)
     go false e = refl
 
-stands : (bases : List Entry) (sizes : List ℕ) (at : ℕ) (entry : Entry) (draft : EntryDraft) → entry_fault bases sizes at entry draft ≡ None → level_stands entry.level (holder_of entry (before bases at)) ≡ true
-stands bases sizes at entry draft n = go (level_stands entry.level (holder_of entry (before bases at))) refl n
+stands : (bases : List Entry) (sizes : List ℕ) (usages : List (Option Usage)) (at : ℕ) (entry : Entry) (draft : EntryDraft) → entry_fault bases sizes usages at entry draft ≡ None → level_stands entry.level (holder_of entry (before bases at)) ≡ true
+stands bases sizes usages at entry draft n = go (level_stands entry.level (holder_of entry (before bases at))) refl n
   where
     go : (b : Bool) → level_stands entry.level (holder_of entry (before bases at)) ≡ b →
-        (if b then kind_fault bases sizes at entry draft (holder_of entry (before bases at)) else fault_at Level draft.at) ≡ None →
+        (if b then kind_fault bases sizes usages at entry draft (holder_of entry (before bases at)) else fault_at Level draft.at) ≡ None →
         level_stands entry.level (holder_of entry (before bases at)) ≡ true
     go true e n = e
     go false e n = absurd cc
@@ -84,7 +85,7 @@ no_holder entry bases = refl
 
 -- ---- entry by entry
 
-module _ (bases : List Entry) (sizes : List ℕ) (values : all (map values_literal bases) ≡ true) where
+module _ (bases : List Entry) (sizes : List ℕ) (usages : List (Option Usage)) (values : all (map values_literal bases) ≡ true) where
   -- the entries so far
   record SoFar (entries : List Entry) : Type 0 where
     begins : begins_with_item entries ≡ true
@@ -100,32 +101,32 @@ module _ (bases : List Entry) (sizes : List ℕ) (values : all (map values_liter
   begins-added [] entry at e b h = h (sym e)
   begins-added (first ∷ entries) entry at e b h = b
 
-  first-level : (entry : Entry) (draft : EntryDraft) (at : ℕ) → entry_fault bases sizes at entry draft ≡ None → at ≡ 0 → not (entry.level == 88) ≡ true
+  first-level : (entry : Entry) (draft : EntryDraft) (at : ℕ) → entry_fault bases sizes usages at entry draft ≡ None → at ≡ 0 → not (entry.level == 88) ≡ true
   first-level entry draft at n e =
-      level-first entry.level (ap (level_stands entry.level) (sym (no_holder entry bases)) ∙ stands bases sizes 0 entry draft (ap (λ i. entry_fault bases sizes i entry draft) (sym e) ∙ n))
+      level-first entry.level (ap (level_stands entry.level) (sym (no_holder entry bases)) ∙ stands bases sizes usages 0 entry draft (ap (λ i. entry_fault bases sizes usages i entry draft) (sym e) ∙ n))
 
   settled-goes : (entries : List Entry) (judged : Judged) (draft : EntryDraft) (o : Option Entry) → length entries ≡ judged.at → slice_get bases judged.at ≡ o →
-      Goes entries judged (settled_at bases entries draft o) (judged_at bases sizes judged draft o)
+      Goes entries judged (settled_at bases usages entries draft o) (judged_at bases sizes usages judged draft o)
   settled-goes entries judged draft None e is = record { counted = e; fine = λ n. (n, λ S. S) }
   settled-goes entries judged draft (Some entry) e is =
-      let next : Entry = settled bases (length entries) draft entry in
+      let next : Entry = settled bases usages (length entries) draft entry in
       let literal : values_literal entry ≡ true = ap (if_any values_literal) (sym is) ∙ get-fine values_literal bases judged.at values in
       record {
         counted = length-append entries (next ∷ []) ∙ ap (λ n. n + 1) e;
         fine = λ n.
-            let h = none_of judged.fault (entry_fault bases sizes judged.at entry draft) n in (
+            let h = none_of judged.fault (entry_fault bases sizes usages judged.at entry draft) n in (
               h.0,
               λ S. record {
                 begins = begins-added entries next judged.at e S.begins (first-level entry draft judged.at h.1);
-                levels = all-added has_level entries next S.levels (level-some entry.level (holder_of entry (before bases judged.at)) (stands bases sizes judged.at entry draft h.1));
+                levels = all-added has_level entries next S.levels (level-some entry.level (holder_of entry (before bases judged.at)) (stands bases sizes usages judged.at entry draft h.1));
                 literals = all-added values_literal entries next S.literals literal;
               },
             );
       }
 
-  one-goes : (entries : List Entry) (judged : Judged) (draft : EntryDraft) → length entries ≡ judged.at → Goes entries judged (settle bases entries draft) (judge bases sizes judged draft)
+  one-goes : (entries : List Entry) (judged : Judged) (draft : EntryDraft) → length entries ≡ judged.at → Goes entries judged (settle bases usages entries draft) (judge bases sizes usages judged draft)
   one-goes entries judged draft e =
-      subst (λ at. Goes entries judged (settled_at bases entries draft (slice_get bases at)) (judge bases sizes judged draft)) (sym e)
+      subst (λ at. Goes entries judged (settled_at bases usages entries draft (slice_get bases at)) (judge bases sizes usages judged draft)) (sym e)
       (settled-goes entries judged draft (slice_get bases judged.at) e refl)
 
   then-goes : (entries : List Entry) (judged : Judged) (mid : List Entry) (later : Judged) (last : List Entry) (end : Judged) → Goes entries judged mid later → Goes mid later last end → Goes entries judged last end
@@ -134,26 +135,27 @@ module _ (bases : List Entry) (sizes : List ℕ) (values : all (map values_liter
     fine = λ n. let behind = H.fine n in let ahead = G.fine behind.0 in (ahead.0, λ S. behind.1 (ahead.1 S));
   }
 
-  all-goes : (drafts : List EntryDraft) (entries : List Entry) (judged : Judged) → length entries ≡ judged.at → Goes entries judged (settle_all bases entries drafts) (judge_all bases sizes judged drafts)
+  all-goes : (drafts : List EntryDraft) (entries : List Entry) (judged : Judged) → length entries ≡ judged.at → Goes entries judged (settle_all bases usages entries drafts) (judge_all bases sizes usages judged drafts)
   all-goes [] entries judged e = record { counted = e; fine = λ n. (n, λ S. S) }
   all-goes (draft ∷ drafts) entries judged e =
       let one = one-goes entries judged draft e in
-      then-goes entries judged (settle bases entries draft) (judge bases sizes judged draft) _ _ one (all-goes drafts (settle bases entries draft) (judge bases sizes judged draft) one.counted)
+      then-goes entries judged (settle bases usages entries draft) (judge bases sizes usages judged draft) _ _ one (all-goes drafts (settle bases usages entries draft) (judge bases sizes usages judged draft) one.counted)
 
-  records-go : (fds : List FdDraft) (entries : List Entry) (judged : Judged) → length entries ≡ judged.at → Goes entries judged (fold (settle_records bases) entries fds) (fold (judge_records bases sizes) judged fds)
+  records-go : (fds : List FdDraft) (entries : List Entry) (judged : Judged) → length entries ≡ judged.at → Goes entries judged (fold (settle_records bases usages) entries fds) (fold (judge_records bases sizes usages) judged fds)
   records-go [] entries judged e = record { counted = e; fine = λ n. (n, λ S. S) }
   records-go (fd ∷ fds) entries judged e =
       let one = all-goes fd.entries entries judged e in
-      then-goes entries judged (settle_records bases entries fd) (judge_records bases sizes judged fd) _ _ one (records-go fds (settle_records bases entries fd) (judge_records bases sizes judged fd) one.counted)
+      then-goes entries judged (settle_records bases usages entries fd) (judge_records bases sizes usages judged fd) _ _ one (records-go fds (settle_records bases usages entries fd) (judge_records bases sizes usages judged fd) one.counted)
 
 pub entries : (divisions : Divisions) → data_literal divisions.data_part ≡ true → fault_of divisions ≡ None → EntriesNamed (entries_of divisions)
 entries divisions literal none =
     let bases = bases_of divisions in
     let sizes = (sized (entries_of divisions)).sizes in
+    let usages = usages_in bases divisions in
     let values = bases-fine divisions literal in
-    let records = records-go bases sizes values divisions.data_part.fds [] (start_of divisions) refl in
-    let storage = all-goes bases sizes values divisions.data_part.storage _ _ records.counted in
-    let found = ((then-goes bases sizes values [] (start_of divisions) _ _ _ _ records storage).fine none).1 (record { begins = refl; levels = refl; literals = refl }) in
+    let records = records-go bases sizes usages values divisions.data_part.fds [] (start_of divisions) refl in
+    let storage = all-goes bases sizes usages values divisions.data_part.storage _ _ records.counted in
+    let found = ((then-goes bases sizes usages values [] (start_of divisions) _ _ _ _ records storage).fine none).1 (record { begins = refl; levels = refl; literals = refl }) in
     record { begins = found.begins; levels = found.levels; values = found.literals }
 
 -- ---- files

@@ -2,7 +2,7 @@
 use Rattle.std.proofs.Common.{◌≡◌, ℕ, zero, suc, ◌+◌, ◌<◌, ◌≤◌, Bool, true, false, inl, inr, List, [], Some, None, refl, sym, ap, ◌∙◌, arith}
 use Rattle.cob_base.specs.Bytes.{left_parenthesis, right_parenthesis, plus_sign, hyphen, colon}
 use Rattle.cob_tree.specs.declared.place.Op.{Op}
-use Rattle.cob_tree.specs.declared.place.Window.{Window, roll-Window}
+use Rattle.cob_tree.specs.declared.place.Window.{roll-Window}
 use Rattle.parser_combinators.specs.declared.note.Position.{Position}
 use Rattle.parser_combinators.specs.Form.{Input, Outcome, Got, Stop, Form, pure, ◌>>◌}
 use Rattle.parser_combinators.specs.Part as parts

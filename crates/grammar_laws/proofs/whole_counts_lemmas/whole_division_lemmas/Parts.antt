@@ -51,6 +51,7 @@ unfolding whole_fault_at
 whole-kind position (items.Number true) n = refl
 whole-kind position (items.Number false) n = absurd cc
 whole-kind position items.Text n = absurd cc
+whole-kind position items.Edited n = absurd cc
 whole-kind position items.Group n = absurd cc
 whole-kind position items.Condition n = absurd cc
 
@@ -59,6 +60,7 @@ no-window : (position : Position) (kind : ItemKind) → whole_fault_at position 
 unfolding whole_fault_at
 no-window position (items.Number whole) n = cc
 no-window position items.Text n = cc
+no-window position items.Edited n = cc
 no-window position items.Group n = cc
 no-window position items.Condition n = cc
 

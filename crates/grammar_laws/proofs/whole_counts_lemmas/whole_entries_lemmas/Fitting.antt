@@ -25,6 +25,7 @@ picture-fits (Some (pictures.Number signed whole part)) s e = both (told e) (no_
     told e = cc
 picture-fits (Some (pictures.Letters count)) s e = absurd cc
 picture-fits (Some (pictures.Any count)) s e = absurd cc
+picture-fits (Some (pictures.Edited mask)) s e = absurd cc
 
 entry-fits : (entry : Entry) (behind : List Entry) → has_short_picture entry ≡ true → kind_of entry behind ≡ kinds.Number true → is_whole_picture entry.picture ≡ true
 entry-fits entry behind s e = go (entry.level == 88) (is_group entry behind) e

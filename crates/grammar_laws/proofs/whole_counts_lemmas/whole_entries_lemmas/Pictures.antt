@@ -1,5 +1,5 @@
 -- A number whose picture is read has at most 18 digits.
-use Rattle.std.proofs.Common.{◌≡◌, ℕ, ◌+◌, Bool, true, false, if◌then◌else◌, List, [], ◌∷◌, Result, Ok, Err, refl}
+use Rattle.std.proofs.Common.{Option, Some, None, ◌≡◌, ℕ, ◌+◌, Bool, true, false, if◌then◌else◌, List, [], ◌∷◌, Result, Ok, Err, refl}
 use Rattle.std.specs.Prelude.{◌==◌, nat_le}
 use Rattle.std.specs.Char.{to_ascii_uppercase}
 use Rattle.cob_tree.specs.declared.picture.Picture.{Picture}
@@ -12,7 +12,10 @@ use Rattle.picture_data.specs.declared.reading.Reading.{Reading}
 use Rattle.picture_data.specs.declared.symbols.Shape.{Shape}
 use Rattle.picture_data.specs.declared.symbols.Shape.TheVariants as shapes
 use Rattle.picture_data.specs.declared.symbols.Symbols.{Symbols}
-use Rattle.picture_data.specs.Reading.{step, finish_by, finish, ended, read_from}
+use Rattle.edit_fields.specs.declared.fault.MaskFault.{MaskFault}
+use Rattle.edit_fields.specs.Mask.{held}
+use Rattle.picture_data.specs.Edited.{first_plain, is_edited, edited_picture, edited_by, picture_by as mask_picture}
+use Rattle.picture_data.specs.Reading.{start, step, finish_by, finish, ended, read_from, plain_picture, picture_of}
 use Rattle.picture_data.specs.Symbols.{number, picture_by}
 use Rattle.declaration_checks.specs.Base.{picture_if}
 use Rattle.grammar_laws.specs.whole_counts.whole_entries.Fitting.{is_short}
@@ -47,8 +50,24 @@ finished-short : (count : ℕ) (reading : Reading) → Short count (finish readi
 unfolding finish
 finished-short count reading = finish-short count reading.place reading.symbols
 
-pub read-short : (count : ℕ) (reading : Result Reading Flaw) (text : List ℕ) → is_short (picture_if (read_from count reading text)) ≡ true
+read-short : (count : ℕ) (reading : Result Reading Flaw) (text : List ℕ) → is_short (picture_if (read_from count reading text)) ≡ true
 unfolding read_from
 read-short count (Err flaw) text = refl
 read-short count (Ok reading) [] = finished-short count reading
 read-short count (Ok reading) (byte ∷ text) = read-short (count + 1) (step (to_ascii_uppercase byte) reading) text
+
+-- a mask has a number of digits of its own
+mask-short : (found : Result (List ℕ) MaskFault) → is_short (picture_if (mask_picture found)) ≡ true
+mask-short (Ok mask) = refl
+mask-short (Err fault) = refl
+
+edited-short : (text : List ℕ) (plain : Option ℕ) → is_short (picture_if (edited_by plain text)) ≡ true
+edited-short text None = mask-short (held text)
+edited-short text (Some position) = refl
+
+pub picture-short : (text : List ℕ) → is_short (picture_if (picture_of text)) ≡ true
+picture-short text = go (is_edited text)
+  where
+    go : (b : Bool) → is_short (picture_if (if b then edited_picture text else plain_picture text)) ≡ true
+    go true = edited-short text (first_plain 0 text)
+    go false = read-short 0 (Ok start) text

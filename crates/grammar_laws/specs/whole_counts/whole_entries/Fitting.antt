@@ -20,6 +20,7 @@ is_short None = true
 is_short (Some (pictures.Number signed whole part)) = nat_le (whole + part) 18
 is_short (Some (pictures.Letters count)) = true
 is_short (Some (pictures.Any count)) = true
+is_short (Some (pictures.Edited mask)) = true
 
 -- the entry has such a picture
 abbrev pub has_short_picture : Entry → Bool

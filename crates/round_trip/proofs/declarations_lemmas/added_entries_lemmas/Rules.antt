@@ -154,6 +154,7 @@ module _ (program made : Program) (items : List WholeItem) (has : HasAdded progr
     item-keeps entry k = record {
       pictured = subst (λ b. PictureSuits b entry.picture) (sym (group-is (base entry))) k.pictured;
       signed = k.signed;
+      used = k.used;
       repeated = subst (λ list. IfAny (Repeats entry.level (standing_of (base entry) list).dims) entry.occurs) (sym before-is) k.repeated;
       valued = subst (λ target. IfAny (IsValued entry target (standing_of (base entry) (before (bases made) at)).barred) entry.value) (sym (target-is (base entry)))
           (subst (λ list. IfAny (IsValued entry (target_of (bases program) (sizes program) at (base entry)) (standing_of (base entry) list).barred) entry.value) (sym before-is) k.valued);
@@ -181,6 +182,7 @@ module _ (program made : Program) (items : List WholeItem) (has : HasAdded progr
     no_redefines = k.no_redefines;
     no_picture = k.no_picture;
     no_sign = k.no_sign;
+    no_usage = k.no_usage;
     no_occurs = k.no_occurs;
     no_value = k.no_value;
     filled = k.filled;
@@ -222,6 +224,7 @@ module _ (made : Program) where
     kind = record {
       pictured = subst (λ b. PictureSuits b (whole_entry item).picture) (sym alone) (omega (arith, some), omega (arith, few));
       signed = tt;
+      used = refl;
       repeated = tt;
       valued = (valued, subst (λ b. fits (operands.Number zero_literal) (target_by b (sizes made) (length front) (whole_entry item)) ≡ true) (sym alone) (fits-zero item.signed item.digits (size_at (slice_get (sizes made) (length front)))));
       redefines = tt;

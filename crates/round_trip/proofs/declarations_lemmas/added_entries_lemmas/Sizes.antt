@@ -55,11 +55,11 @@ sized_by-added : (entry : Entry) (later more : Sized) → Stops more.pieces → 
 sized_by-added entry later more s = go (entry.level == 88) (entry.level == 0) refl (is_apart entry)
   where
     item : (entry.level == 0) ≡ false →
-        item_sized entry (size_by entry.picture entry.sign (inside entry.level 0 (later.pieces ++ more.pieces))) (joined later more)
-        ≡ joined (item_sized entry (size_by entry.picture entry.sign (inside entry.level 0 later.pieces)) later) more
+        item_sized entry (size_by entry.picture entry.sign entry.usage (inside entry.level 0 (later.pieces ++ more.pieces))) (joined later more)
+        ≡ joined (item_sized entry (size_by entry.picture entry.sign entry.usage (inside entry.level 0 later.pieces)) later) more
     item h =
-        ap (λ n. item_sized entry (size_by entry.picture entry.sign n) (joined later more)) (inside-added entry.level 0 later.pieces more.pieces h s)
-        ∙ ap (λ l. both_of (size_by entry.picture entry.sign (inside entry.level 0 later.pieces)) l) (behind-added entry.level later.pieces more.pieces h s)
+        ap (λ n. item_sized entry (size_by entry.picture entry.sign entry.usage n) (joined later more)) (inside-added entry.level 0 later.pieces more.pieces h s)
+        ∙ ap (λ l. both_of (size_by entry.picture entry.sign entry.usage (inside entry.level 0 later.pieces)) l) (behind-added entry.level later.pieces more.pieces h s)
       where
         both_of : ℕ → List SizedItem → Sized
         both_of size l = record { sizes = size ∷ (later.sizes ++ more.sizes); pieces = (record { depth = entry.level; bytes = added entry.redefines (times entry.occurs size) }) ∷ l }
@@ -67,8 +67,8 @@ sized_by-added entry later more s = go (entry.level == 88) (entry.level == 0) re
     by : Bool → Bool → Bool → Sized → Sized
     by condition none apart all =
         if (condition || none) then apart_sized 0 all
-        else if apart then apart_sized (size_by entry.picture entry.sign 0) all
-        else item_sized entry (size_by entry.picture entry.sign (inside entry.level 0 all.pieces)) all
+        else if apart then apart_sized (size_by entry.picture entry.sign entry.usage 0) all
+        else item_sized entry (size_by entry.picture entry.sign entry.usage (inside entry.level 0 all.pieces)) all
 
     go : (condition none : Bool) → (entry.level == 0) ≡ none → (apart : Bool) → by condition none apart (joined later more) ≡ joined (by condition none apart later) more
     go true none h apart = refl
@@ -86,8 +86,8 @@ sizes-more : (entry : Entry) (later : Sized) → length (sized_by entry later).s
 sizes-more entry later = go (is_bare entry) (is_apart entry)
   where
     go : (bare apart : Bool) → length (if bare then apart_sized 0 later
-        else if apart then apart_sized (size_by entry.picture entry.sign 0) later
-        else item_sized entry (size_by entry.picture entry.sign (inside entry.level 0 later.pieces)) later).sizes ≡ suc (length later.sizes)
+        else if apart then apart_sized (size_by entry.picture entry.sign entry.usage 0) later
+        else item_sized entry (size_by entry.picture entry.sign entry.usage (inside entry.level 0 later.pieces)) later).sizes ≡ suc (length later.sizes)
     go true apart = refl
     go false true = refl
     go false false = refl

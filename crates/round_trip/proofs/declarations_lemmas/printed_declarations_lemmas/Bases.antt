@@ -8,6 +8,7 @@ use Rattle.cob_tree.specs.declared.entry.Span.{Span}
 use Rattle.cob_tree.specs.declared.picture.Picture.{Picture}
 use Rattle.cob_tree.specs.declared.picture.Sign.{Sign}
 use Rattle.cob_tree.specs.declared.picture.Sign.TheVariants.{Within, SeparateLeading, SeparateTrailing}
+use Rattle.cob_tree.specs.declared.picture.Usage.{Usage}
 use Rattle.cob_tree.specs.declared.place.Operand.{Operand}
 use Rattle.cob_tree.specs.declared.program.Program.{Program}
 use Rattle.cobol_grammar.specs.declared.data_forms.draft.Clause.{Clause}
@@ -24,7 +25,7 @@ use Rattle.round_trip.specs.declarations.printed_pictures.Writable.{IsWritable}
 use Rattle.round_trip.proofs.declarations_lemmas.printed_pictures_lemmas.Pictures.{pictures_read_back}
 use Rattle.round_trip.proofs.declarations_lemmas.printed_pictures_lemmas.Lengths.{picture-short}
 use Rattle.round_trip.specs.spelling.data_spelling.Printable.{IfAny}
-use Rattle.round_trip.specs.spelling.data_spelling.Drafts.{IsRedefines, IsPicture, IsSign, IsSpans, IsOccurs, IsValue, IsRanges, AreClauses, IsDraft}
+use Rattle.round_trip.specs.spelling.data_spelling.Drafts.{IsRedefines, IsPicture, IsUsage, IsSign, IsSpans, IsOccurs, IsValue, IsRanges, AreClauses, IsDraft}
 use Rattle.round_trip.specs.declarations.printed_declarations.Rules.{marked, base, bases, PictureSuits, Repeats, IsFilled, ItemKeeps, ConditionKeeps, KindKeeps, is_level}
 use Rattle.round_trip.proofs.declarations_lemmas.printed_declarations_lemmas.Numbers.{count-is, level-is}
 use Rattle.round_trip.proofs.declarations_lemmas.printed_declarations_lemmas.Lookup.{first_in, parts-of, redefines-found, picture-found, sign-found, occurs-found, value-found, any-found}
@@ -69,25 +70,26 @@ value-is (Some value) list h = ap (λ list. value_of (spans_in (first_in list)))
 
 -- ---- an entry of these parts
 
-abbrev made : ℕ → Option (List ℕ) → Option ℕ → Option ℕ → Option Picture → Sign → Option ℕ → Option Operand → List Span → Entry
-made level name file redefines picture sign occurs value ranges = record {
+abbrev made : ℕ → Option (List ℕ) → Option ℕ → Option ℕ → Option Picture → Sign → Usage → Option ℕ → Option Operand → List Span → Entry
+made level name file redefines picture sign usage occurs value ranges = record {
   level = level;
   name = name;
   file = file;
   redefines = redefines;
   picture = picture;
   sign = sign;
+  usage = usage;
   occurs = occurs;
   value = value;
   ranges = ranges;
 }
 
-pub same-entry : {l m : ℕ} {n o : Option (List ℕ)} {f g : Option ℕ} {r s : Option ℕ} {p q : Option Picture} {a b : Sign} {c d : Option ℕ} {v w : Option Operand} {x y : List Span} →
-    l ≡ m → n ≡ o → f ≡ g → r ≡ s → p ≡ q → a ≡ b → c ≡ d → v ≡ w → x ≡ y → made l n f r p a c v x ≡ made m o g s q b d w y
-same-entry {l = l} {m = m} {n = n} {o = o} {f = f} {g = g} {r = r} {s = s} {p = p} {q = q} {a = a} {b = b} {c = c} {d = d} {v = v} {w = w} {x = x} {y = y} h1 h2 h3 h4 h5 h6 h7 h8 h9 =
-    ap (λ l. made l n f r p a c v x) h1 ∙ ap (λ n. made m n f r p a c v x) h2 ∙ ap (λ f. made m o f r p a c v x) h3 ∙ ap (λ r. made m o g r p a c v x) h4
-    ∙ ap (λ p. made m o g s p a c v x) h5 ∙ ap (λ a. made m o g s q a c v x) h6 ∙ ap (λ c. made m o g s q b c v x) h7 ∙ ap (λ v. made m o g s q b d v x) h8
-    ∙ ap (λ x. made m o g s q b d w x) h9
+pub same-entry : {l m : ℕ} {n o : Option (List ℕ)} {f g : Option ℕ} {r s : Option ℕ} {p q : Option Picture} {a b : Sign} {t u : Usage} {c d : Option ℕ} {v w : Option Operand} {x y : List Span} →
+    l ≡ m → n ≡ o → f ≡ g → r ≡ s → p ≡ q → a ≡ b → t ≡ u → c ≡ d → v ≡ w → x ≡ y → made l n f r p a t c v x ≡ made m o g s q b u d w y
+same-entry {l = l} {m = m} {n = n} {o = o} {f = f} {g = g} {r = r} {s = s} {p = p} {q = q} {a = a} {b = b} {t = t} {u = u} {c = c} {d = d} {v = v} {w = w} {x = x} {y = y} h1 h2 h3 h4 h5 h6 h7 h8 h9 h10 =
+    ap (λ l. made l n f r p a t c v x) h1 ∙ ap (λ n. made m n f r p a t c v x) h2 ∙ ap (λ f. made m o f r p a t c v x) h3 ∙ ap (λ r. made m o g r p a t c v x) h4
+    ∙ ap (λ p. made m o g s p a t c v x) h5 ∙ ap (λ a. made m o g s q a t c v x) h6 ∙ ap (λ t. made m o g s q b t c v x) h7 ∙ ap (λ c. made m o g s q b u c v x) h8
+    ∙ ap (λ v. made m o g s q b u d v x) h9 ∙ ap (λ x. made m o g s q b u d w x) h10
 
 -- ---- a level 88
 
@@ -99,17 +101,19 @@ ranges-spans (span ∷ spans) list f h = h
 pub condition-spans : (program : Program) (at : ℕ) (entry : Entry) (list : List Clause) → ConditionKeeps program at entry → AreClauses program entry list → IsSpans entry.ranges list
 condition-spans program at entry list K h =
     let p = h.3 in
-    let s = p.3 in
+    let u = p.3 in
+    let s = u.3 in
     let o = s.3 in
     let v = o.3 in
     let no_redefines : h.0 ≡ [] = subst (λ x. IsRedefines program x h.0) K.no_redefines h.2 in
     let no_picture : p.0 ≡ [] = subst (λ x. IsPicture x p.0) K.no_picture p.2 in
+    let no_usage : u.0 ≡ [] = subst (λ x. IsUsage x u.0) K.no_usage u.2 in
     let no_sign : s.0 ≡ [] = subst (λ x. IsSign x s.0) K.no_sign s.2 in
     let no_occurs : o.0 ≡ [] = subst (λ x. IsOccurs x o.0) K.no_occurs o.2 in
     let no_value : v.0 ≡ [] = subst (λ x. IsValue x v.0) K.no_value v.2 in
     let is : list ≡ v.1 =
-    h.4 ∙ ap (λ front. front ++ h.1) no_redefines ∙ p.4 ∙ ap (λ front. front ++ p.1) no_picture ∙ s.4 ∙ ap (λ front. front ++ s.1) no_sign ∙ o.4 ∙ ap (λ front. front ++ o.1) no_occurs
-    ∙ v.4 ∙ ap (λ front. front ++ v.1) no_value in
+    h.4 ∙ ap (λ front. front ++ h.1) no_redefines ∙ p.4 ∙ ap (λ front. front ++ p.1) no_picture ∙ u.4 ∙ ap (λ front. front ++ u.1) no_usage ∙ s.4 ∙ ap (λ front. front ++ s.1) no_sign
+    ∙ o.4 ∙ ap (λ front. front ++ o.1) no_occurs ∙ v.4 ∙ ap (λ front. front ++ v.1) no_value in
     ranges-spans entry.ranges list K.filled (subst (IsRanges entry.ranges) (sym is) v.3)
 
 -- ---- a picture that suits can be written
@@ -133,6 +137,7 @@ item-base program at entry draft K D =
     ∙ marked-is program entry.redefines P.redefines P.is_redefines)
     (ap picture_in (picture-found P) ∙ picture-is entry.picture P.picture (writable (is_group (base entry) (behind (bases program) at)) entry.picture K.pictured) P.is_picture)
     (ap sign_in (sign-found P) ∙ sign-is entry.sign P.sign P.is_sign)
+    refl
     (ap occurs_in (occurs-found P) ∙ occurs-is entry.occurs P.occurs (counts entry.level (standing_of (base entry) (before (bases program) at)).dims entry.occurs K.repeated) P.is_occurs)
     (ap (λ o. value_of (spans_in o)) (value-found P) ∙ value-is entry.value P.value P.is_value)
     (sym K.no_ranges)
@@ -140,7 +145,7 @@ item-base program at entry draft K D =
 condition-base : (program : Program) (at : ℕ) (entry : Entry) (draft : EntryDraft) → 88 ≡ entry.level → ConditionKeeps program at entry → IsDraft program entry draft → condition_of draft entry.file ≡ base entry
 condition-base program at entry draft e K D =
     let S = condition-spans program at entry draft.clauses K D.clauses in
-    same-entry e D.name refl (sym (ap marked K.no_redefines)) (sym K.no_picture) (sym K.no_sign) (sym K.no_occurs) (sym K.no_value)
+    same-entry e D.name refl (sym (ap marked K.no_redefines)) (sym K.no_picture) (sym K.no_sign) refl (sym K.no_occurs) (sym K.no_value)
     (ap (λ list. map span_of (spans_in (clause_of kinds.Value list))) S.3 ∙ S.2)
 
 is-88 : (level : ℕ) → (level == 88) ≡ true → 88 ≡ level

@@ -1,5 +1,5 @@
 -- A printed entry breaks no rule.
-use Rattle.std.proofs.Common.{◌≡◌, ℕ, ◌≤◌, Bool, true, false, not, ◌&&◌, if◌then◌else◌, List, [], ◌∷◌, map, Option, Some, None, refl, ap, sym, ◌∙◌, subst}
+use Rattle.std.proofs.Common.{◌≡◌, ℕ, ◌≤◌, Bool, true, false, not, ◌&&◌, ◌||◌, if◌then◌else◌, List, [], ◌∷◌, map, Option, Some, None, refl, ap, sym, ◌∙◌, subst}
 use Rattle.std.specs.Prelude.{◌==◌, nat_le, slice_get, decimal}
 use Rattle.std.specs.List.{fold}
 use Rattle.std.proofs.lemmas.Bool.{le-leb}
@@ -8,6 +8,9 @@ use Rattle.cob_tree.specs.declared.entry.Span.{Span}
 use Rattle.cob_tree.specs.declared.picture.Picture.{Picture}
 use Rattle.cob_tree.specs.declared.picture.Sign.{Sign}
 use Rattle.cob_tree.specs.declared.picture.Sign.TheVariants.{Within, SeparateLeading, SeparateTrailing}
+use Rattle.cob_tree.specs.declared.picture.Picture.TheVariants as pictures
+use Rattle.cob_tree.specs.declared.picture.Usage.{Usage as ItemUsage}
+use Rattle.cob_tree.specs.declared.picture.Usage.TheVariants.{Display, Binary, Packed}
 use Rattle.cob_tree.specs.declared.place.Operand.{Operand}
 use Rattle.cob_tree.specs.declared.program.Program.{Program}
 use Rattle.cobol_grammar.specs.declared.data_forms.draft.Clause.{Clause}
@@ -30,14 +33,17 @@ use Rattle.declaration_checks.specs.Literal.{fits}
 use Rattle.declaration_checks.specs.Redefining.{item_fault as redefined_item_fault, redefines_by, redefines_fault, is_short, redefined_by, redefined_in}
 use Rattle.declaration_checks.specs.Rule.{target_of, fits_at, fits_fault, condition_fault, clauses_fault, item_fault, kind_fault, entry_fault}
 use Rattle.declaration_checks.specs.Standing.{before, behind, holder_of, standing_of}
+use Rattle.declaration_checks.specs.Usage.{usage_above, own_usage, is_computational, may_compute, other_usage, usage_place, form_fault, beside_fault, usage_fault, usage_in}
 use Rattle.declaration_checks.specs.Value.{missing_by, missing_fault, to_fault, span_fault, and_span, spans_fault, may_have_value, thru_fault, second_fault, literals_fault, value_by, value_fault}
 use Rattle.unparser.specs.Place.{item_name}
+use Rattle.grammar_laws.specs.whole_counts.entry_bounds.Bounds.{is_within, usage_suits}
 use Rattle.round_trip.specs.spelling.data_spelling.Printable.{IfAny}
 use Rattle.round_trip.specs.spelling.data_spelling.Drafts.{IsRedefines, IsPicture, IsSign, alone, IsOccurs, IsValue, IsDraft}
-use Rattle.round_trip.specs.declarations.printed_declarations.Rules.{base, bases, sizes, PictureSuits, SignSuits, Repeats, IsValued, Redefines, ItemKeeps, SpanFits, SpansFit, FitAt, FitHolder, ConditionKeeps, KindKeeps, EntryKeeps}
+use Rattle.round_trip.specs.declarations.printed_declarations.Rules.{base, bases, said, usages, sizes, PictureSuits, SignSuits, Repeats, IsValued, Redefines, ItemKeeps, SpanFits, SpansFit, FitAt, FitHolder, ConditionKeeps, KindKeeps, EntryKeeps}
 use Rattle.round_trip.proofs.declarations_lemmas.printed_declarations_lemmas.Numbers.{number-is}
-use Rattle.round_trip.proofs.declarations_lemmas.printed_declarations_lemmas.Lookup.{first_in, parts-of, none-again, redefines-found, picture-found, sign-found, occurs-found, value-found}
+use Rattle.round_trip.proofs.declarations_lemmas.printed_declarations_lemmas.Lookup.{first_in, parts-of, none-again, redefines-found, picture-found, usage-found, sign-found, occurs-found, value-found}
 use Rattle.round_trip.proofs.declarations_lemmas.printed_declarations_lemmas.Bases.{condition-spans}
+use Rattle.round_trip.proofs.declarations_lemmas.printed_declarations_lemmas.Usages.{usage-said}
 
 -- ---- several faults that are none
 
@@ -70,6 +76,67 @@ sign-none : (group : Bool) (o : Option Picture) (sign : Sign) (list : List Claus
 sign-none group o Within list suits s is = ap (λ list. sign_by o group (first_in list)) is
 sign-none group o SeparateLeading list suits s is = ap (λ list. sign_by o group (first_in list)) is.1 ∙ holds (not group && is_signed o) Usage is.0 (signed-item group o suits s)
 sign-none group o SeparateTrailing list suits s is = ap (λ list. sign_by o group (first_in list)) is.1 ∙ holds (not group && is_signed o) Usage is.0 (signed-item group o suits s)
+
+-- only a number computes
+may-be : (group : Bool) (usage : ItemUsage) (sign : Sign) (o : Option Picture) → usage_suits usage sign o ≡ true → (group || (may_compute o || not (is_computational (said usage)))) ≡ true
+may-be true usage sign o e = refl
+may-be false Display sign o e = either (may_compute o)
+  where
+    either : (b : Bool) → (b || true) ≡ true
+    either true = refl
+    either false = refl
+may-be false Binary sign None e = absurd cc
+may-be false Binary sign (Some (pictures.Number signed whole part)) e = refl
+may-be false Binary sign (Some (pictures.Letters count)) e = absurd cc
+may-be false Binary sign (Some (pictures.Any count)) e = absurd cc
+may-be false Binary sign (Some (pictures.Edited mask)) e = absurd cc
+may-be false Packed sign None e = absurd cc
+may-be false Packed sign (Some (pictures.Number signed whole part)) e = refl
+may-be false Packed sign (Some (pictures.Letters count)) e = absurd cc
+may-be false Packed sign (Some (pictures.Any count)) e = absurd cc
+may-be false Packed sign (Some (pictures.Edited mask)) e = absurd cc
+
+-- a separate sign is beside DISPLAY alone
+displayed : (usage : ItemUsage) (sign : Sign) (o : Option Picture) → usage_suits usage sign o ≡ true → is_within sign ≡ false → is_computational (said usage) ≡ false
+displayed Display sign o e w = refl
+displayed Binary sign None e w = absurd cc
+displayed Binary sign (Some (pictures.Number signed whole part)) e w = absurd (no (sym w ∙ e))
+  where
+    no : false ≡ true → ⊥
+    no e = cc
+displayed Binary sign (Some (pictures.Letters count)) e w = absurd cc
+displayed Binary sign (Some (pictures.Any count)) e w = absurd cc
+displayed Binary sign (Some (pictures.Edited mask)) e w = absurd cc
+displayed Packed sign None e w = absurd cc
+displayed Packed sign (Some (pictures.Number signed whole part)) e w = absurd (no (sym w ∙ e))
+  where
+    no : false ≡ true → ⊥
+    no e = cc
+displayed Packed sign (Some (pictures.Letters count)) e w = absurd cc
+displayed Packed sign (Some (pictures.Any count)) e w = absurd cc
+displayed Packed sign (Some (pictures.Edited mask)) e w = absurd cc
+
+beside-none : (usage : ItemUsage) (sign : Sign) (o : Option Picture) (list : List Clause) → usage_suits usage sign o ≡ true → IsSign sign list → beside_fault (said usage) (first_in list) ≡ None
+beside-none usage Within o list e is = ap (λ list. beside_fault (said usage) (first_in list)) is
+beside-none usage SeparateLeading o list e is =
+    ap (λ list. beside_fault (said usage) (first_in list)) is.1 ∙ holds (not (is_computational (said usage))) Usage is.0 (ap not (displayed usage SeparateLeading o e refl))
+beside-none usage SeparateTrailing o list e is =
+    ap (λ list. beside_fault (said usage) (first_in list)) is.1 ∙ holds (not (is_computational (said usage))) Usage is.0 (ap not (displayed usage SeparateTrailing o e refl))
+
+-- where nothing is handed down
+usage-none : (group : Bool) (o : Option Picture) (usage : ItemUsage) (sign : Sign) (at : Position) (list signs : List Clause) → usage_suits usage sign o ≡ true → own_usage list ≡ said usage →
+    clause_of kinds.Sign list ≡ first_in signs → IsSign sign signs → usage_fault o group None at list ≡ None
+usage-none group o usage sign at list signs suits own found is =
+    none-first
+    (other_usage None (clause_of kinds.Usage list) ∷ form_fault o group (own_usage list) (usage_place at (clause_of kinds.Usage list))
+    ∷ beside_fault (own_usage list) (clause_of kinds.Sign list) ∷ []) (
+      refl,
+      (
+        ap (λ u. form_fault o group u (usage_place at (clause_of kinds.Usage list))) own
+            ∙ holds (group || (may_compute o || not (is_computational (said usage)))) Usage (usage_place at (clause_of kinds.Usage list)) (may-be group usage sign o suits),
+        (ap (λ u. beside_fault u (clause_of kinds.Sign list)) own ∙ ap (beside_fault (said usage)) found ∙ beside-none usage sign o signs suits is, tt),
+      ),
+    )
 
 counted : (count : ℕ) → 1 ≤ count → count ≤ 65535 → is_count (number_of (decimal count)) ≡ true
 counted count some few = ap is_count (number-is count few) ∙ ap (λ b. b && nat_le count 65535) (le-leb 1 count some) ∙ le-leb count 65535 few
@@ -127,14 +194,18 @@ module _ (program : Program) (at : ℕ) (entry : Entry) (draft : EntryDraft) (D 
   abbrev group : Bool
   group = is_group (base entry) (behind (bases program) at)
 
-  item-none : ItemKeeps program at entry → item_fault (bases program) (sizes program) at (base entry) draft ≡ None
-  item-none K =
+  abbrev above : Option ItemUsage
+  above = usage_above (usages program) (holder_of (base entry) (before (bases program) at))
+
+  item-none : above ≡ None → ItemKeeps program at entry → item_fault (bases program) (sizes program) (usages program) at (base entry) draft ≡ None
+  item-none none K =
       let P = parts-of program entry draft.clauses D.clauses K.no_ranges in
       let standing = standing_of (base entry) (before (bases program) at) in
-      none-first (clauses_fault (base entry) target standing draft ∷ redefines_fault (bases program) (sizes program) at (base entry) draft.clauses ∷ []) (
+      none-first (clauses_fault (base entry) target standing above draft ∷ redefines_fault (bases program) (sizes program) at (base entry) draft.clauses ∷ []) (
         none-first
             (duplicate_fault draft.clauses
             ∷ picture_fault entry.picture group draft.at draft.clauses
+            ∷ usage_fault entry.picture group above draft.at draft.clauses
             ∷ sign_fault entry.picture group draft.clauses
             ∷ occurs_fault entry.level standing.dims draft.clauses
             ∷ value_fault (base entry) target standing.barred draft.clauses ∷ []) (
@@ -142,12 +213,16 @@ module _ (program : Program) (at : ℕ) (entry : Entry) (draft : EntryDraft) (D 
               (
                 ap (picture_by entry.picture group draft.at) (picture-found P) ∙ picture-none group entry.picture draft.at P.picture K.pictured P.is_picture,
                 (
-                  ap (sign_by entry.picture group) (sign-found P) ∙ sign-none group entry.picture entry.sign P.sign K.pictured K.signed P.is_sign,
+                  ap (λ u. usage_fault entry.picture group u draft.at draft.clauses) none
+                      ∙ usage-none group entry.picture entry.usage entry.sign draft.at draft.clauses P.sign K.used (ap usage_in (usage-found P) ∙ usage-said entry.usage P.usage P.is_usage) (sign-found P) P.is_sign,
                   (
-                    ap (occurs_by entry.level standing.dims) (occurs-found P) ∙ occurs-none entry.level standing.dims entry.occurs P.occurs K.repeated P.is_occurs,
+                    ap (sign_by entry.picture group) (sign-found P) ∙ sign-none group entry.picture entry.sign P.sign K.pictured K.signed P.is_sign,
                     (
-                      ap (value_by (base entry) target standing.barred) (value-found P) ∙ value-none entry target standing.barred entry.value P.value K.valued P.is_value,
-                      tt,
+                      ap (occurs_by entry.level standing.dims) (occurs-found P) ∙ occurs-none entry.level standing.dims entry.occurs P.occurs K.repeated P.is_occurs,
+                      (
+                        ap (value_by (base entry) target standing.barred) (value-found P) ∙ value-none entry target standing.barred entry.value P.value K.valued P.is_value,
+                        tt,
+                      ),
                     ),
                   ),
                 ),
@@ -214,15 +289,15 @@ module _ (program : Program) (at : ℕ) (entry : Entry) (draft : EntryDraft) (D 
 
   -- ---- an entry
 
-  pub entry-none : EntryKeeps program at entry → entry_fault (bases program) (sizes program) at (base entry) draft ≡ None
-  entry-none E =
-      ap (λ b. if b then kind_fault (bases program) (sizes program) at (base entry) draft (holder_of (base entry) (before (bases program) at)) else fault_at Level draft.at) E.stands
-      ∙ go (entry.level == 88) E.kind
+  pub entry-none : ((entry.level == 88) ≡ false → above ≡ None) → EntryKeeps program at entry → entry_fault (bases program) (sizes program) (usages program) at (base entry) draft ≡ None
+  entry-none none E =
+      ap (λ b. if b then kind_fault (bases program) (sizes program) (usages program) at (base entry) draft (holder_of (base entry) (before (bases program) at)) else fault_at Level draft.at) E.stands
+      ∙ go (entry.level == 88) refl E.kind
     where
-      go : (b : Bool) → KindKeeps b program at entry →
-          (if b then condition_fault (bases program) (sizes program) draft (holder_of (base entry) (before (bases program) at)) else item_fault (bases program) (sizes program) at (base entry) draft) ≡ None
-      go true K = condition-none K
-      go false K = item-none K
+      go : (b : Bool) → (entry.level == 88) ≡ b → KindKeeps b program at entry →
+          (if b then condition_fault (bases program) (sizes program) draft (holder_of (base entry) (before (bases program) at)) else item_fault (bases program) (sizes program) (usages program) at (base entry) draft) ≡ None
+      go true is K = condition-none K
+      go false is K = item-none (none is) K
 
   -- what it redefines
   pub redefined-is : KindKeeps (entry.level == 88) program at entry →

@@ -8,6 +8,8 @@ use Rattle.cob_tree.specs.declared.entry.Span.{Span}
 use Rattle.cob_tree.specs.declared.picture.Picture.{Picture}
 use Rattle.cob_tree.specs.declared.picture.Sign.{Sign}
 use Rattle.cob_tree.specs.declared.picture.Sign.TheVariants.{Within, SeparateLeading, SeparateTrailing}
+use Rattle.cob_tree.specs.declared.picture.Usage.{Usage as ItemUsage}
+use Rattle.cob_tree.specs.declared.picture.Usage.TheVariants.{Display, Binary, Packed}
 use Rattle.cob_tree.specs.declared.place.Operand.{Operand}
 use Rattle.cob_tree.specs.declared.program.Program.{Program}
 use Rattle.cobol_grammar.specs.declared.data_forms.draft.Clause.{Clause}
@@ -16,7 +18,7 @@ use Rattle.declaration_checks.specs.declared.clause.ClauseKind.{ClauseKind}
 use Rattle.declaration_checks.specs.declared.clause.ClauseKind.TheVariants as kinds
 use Rattle.declaration_checks.specs.Clause.{kind_of, kind_number, is_of, clause_of, again_from, duplicate_fault, position_of}
 use Rattle.declaration_checks.specs.Fault.{fault_at}
-use Rattle.round_trip.specs.spelling.data_spelling.Drafts.{IsRedefines, IsPicture, IsSign, IsSpans, alone, IsOccurs, IsValue, IsRanges, AreClauses}
+use Rattle.round_trip.specs.spelling.data_spelling.Drafts.{IsRedefines, IsPicture, IsUsage, IsSign, IsSpans, alone, IsOccurs, IsValue, IsRanges, AreClauses}
 
 -- ---- a part is one clause of a kind, or none
 
@@ -37,6 +39,11 @@ redefines-only program (Some number) list h = of-kind kinds.Redefines _ list h.2
 pub picture-only : (o : Option Picture) (list : List Clause) → IsPicture o list → Only kinds.Picture list
 picture-only None list h = inl h
 picture-only (Some picture) list h = of-kind kinds.Picture _ list h.2 refl
+
+pub usage-only : (usage : ItemUsage) (list : List Clause) → IsUsage usage list → Only kinds.Usage list
+usage-only Display list h = inl h
+usage-only Binary list h = of-kind kinds.Usage _ list h.1 refl
+usage-only Packed list h = of-kind kinds.Usage _ list h.1 refl
 
 pub sign-only : (sign : Sign) (list : List Clause) → IsSign sign list → Only kinds.Sign list
 sign-only Within list h = inl h
@@ -108,35 +115,41 @@ any-found test (clause ∷ list) = go (test clause) (any-found test list)
 pub record Parts (program : Program) (entry : Entry) (list : List Clause) : Type 0 where
   pub redefines : List Clause
   pub picture : List Clause
+  pub usage : List Clause
   pub sign : List Clause
   pub occurs : List Clause
   pub value : List Clause
   pub is_redefines : IsRedefines program entry.redefines redefines
   pub is_picture : IsPicture entry.picture picture
+  pub is_usage : IsUsage entry.usage usage
   pub is_sign : IsSign entry.sign sign
   pub is_occurs : IsOccurs entry.occurs occurs
   pub is_value : IsValue entry.value value
-  pub is : list ≡ redefines ++ (picture ++ (sign ++ (occurs ++ value)))
+  pub is : list ≡ redefines ++ (picture ++ (usage ++ (sign ++ (occurs ++ value))))
 
 pub parts-of : (program : Program) (entry : Entry) (list : List Clause) → AreClauses program entry list → entry.ranges ≡ [] → Parts program entry list
 parts-of program entry list h none =
     let p = h.3 in
-    let s = p.3 in
+    let u = p.3 in
+    let s = u.3 in
     let o = s.3 in
     let v = o.3 in
     let last : v.1 ≡ [] = subst (λ spans. IsRanges spans v.1) none v.3 in
     record {
       redefines = h.0;
       picture = p.0;
+      usage = u.0;
       sign = s.0;
       occurs = o.0;
       value = v.0;
       is_redefines = h.2;
       is_picture = p.2;
+      is_usage = u.2;
       is_sign = s.2;
       is_occurs = o.2;
       is_value = v.2;
-      is = h.4 ∙ ap (λ list. h.0 ++ list) (p.4 ∙ ap (λ list. p.0 ++ list) (s.4 ∙ ap (λ list. s.0 ++ list) (o.4 ∙ ap (λ list. o.0 ++ list) (v.4 ∙ ap (λ list. v.0 ++ list) last ∙ append-nil v.0))));
+      is = h.4
+          ∙ ap (λ list. h.0 ++ list) (p.4 ∙ ap (λ list. p.0 ++ list) (u.4 ∙ ap (λ list. u.0 ++ list) (s.4 ∙ ap (λ list. s.0 ++ list) (o.4 ∙ ap (λ list. o.0 ++ list) (v.4 ∙ ap (λ list. v.0 ++ list) last ∙ append-nil v.0)))));
     }
 
 module _ {program : Program} {entry : Entry} {list : List Clause} (P : Parts program entry list) where
@@ -145,6 +158,9 @@ module _ {program : Program} {entry : Entry} {list : List Clause} (P : Parts pro
 
   abbrev pub picture_only : Only kinds.Picture P.picture
   picture_only = picture-only entry.picture P.picture P.is_picture
+
+  abbrev pub usage_only : Only kinds.Usage P.usage
+  usage_only = usage-only entry.usage P.usage P.is_usage
 
   abbrev pub sign_only : Only kinds.Sign P.sign
   sign_only = sign-only entry.sign P.sign P.is_sign
@@ -155,46 +171,74 @@ module _ {program : Program} {entry : Entry} {list : List Clause} (P : Parts pro
   abbrev pub value_only : Only kinds.Value P.value
   value_only = value-only entry.value P.value P.is_value
 
+  -- the parts behind one
+  abbrev pub behind_sign : List Clause
+  behind_sign = P.occurs ++ P.value
+
+  abbrev pub behind_usage : List Clause
+  behind_usage = P.sign ++ behind_sign
+
+  abbrev pub behind_picture : List Clause
+  behind_picture = P.usage ++ behind_usage
+
+  abbrev pub behind_redefines : List Clause
+  behind_redefines = P.picture ++ behind_picture
+
   pub redefines-found : clause_of kinds.Redefines list ≡ first_in P.redefines
   redefines-found =
       ap (clause_of kinds.Redefines) P.is
-      ∙ found kinds.Redefines P.redefines (P.picture ++ (P.sign ++ (P.occurs ++ P.value))) redefines_only
-      (skipped kinds.Redefines kinds.Picture P.picture (P.sign ++ (P.occurs ++ P.value)) picture_only refl
-      ∙ skipped kinds.Redefines kinds.Sign P.sign (P.occurs ++ P.value) sign_only refl
+      ∙ found kinds.Redefines P.redefines behind_redefines redefines_only
+      (skipped kinds.Redefines kinds.Picture P.picture behind_picture picture_only refl
+      ∙ skipped kinds.Redefines kinds.Usage P.usage behind_usage usage_only refl
+      ∙ skipped kinds.Redefines kinds.Sign P.sign behind_sign sign_only refl
       ∙ skipped kinds.Redefines kinds.Occurs P.occurs P.value occurs_only refl
       ∙ last-skipped kinds.Redefines kinds.Value P.value value_only refl)
 
   pub picture-found : clause_of kinds.Picture list ≡ first_in P.picture
   picture-found =
       ap (clause_of kinds.Picture) P.is
-      ∙ skipped kinds.Picture kinds.Redefines P.redefines (P.picture ++ (P.sign ++ (P.occurs ++ P.value))) redefines_only refl
-      ∙ found kinds.Picture P.picture (P.sign ++ (P.occurs ++ P.value)) picture_only
-      (skipped kinds.Picture kinds.Sign P.sign (P.occurs ++ P.value) sign_only refl
+      ∙ skipped kinds.Picture kinds.Redefines P.redefines behind_redefines redefines_only refl
+      ∙ found kinds.Picture P.picture behind_picture picture_only
+      (skipped kinds.Picture kinds.Usage P.usage behind_usage usage_only refl
+      ∙ skipped kinds.Picture kinds.Sign P.sign behind_sign sign_only refl
       ∙ skipped kinds.Picture kinds.Occurs P.occurs P.value occurs_only refl
       ∙ last-skipped kinds.Picture kinds.Value P.value value_only refl)
+
+  pub usage-found : clause_of kinds.Usage list ≡ first_in P.usage
+  usage-found =
+      ap (clause_of kinds.Usage) P.is
+      ∙ skipped kinds.Usage kinds.Redefines P.redefines behind_redefines redefines_only refl
+      ∙ skipped kinds.Usage kinds.Picture P.picture behind_picture picture_only refl
+      ∙ found kinds.Usage P.usage behind_usage usage_only
+      (skipped kinds.Usage kinds.Sign P.sign behind_sign sign_only refl
+      ∙ skipped kinds.Usage kinds.Occurs P.occurs P.value occurs_only refl
+      ∙ last-skipped kinds.Usage kinds.Value P.value value_only refl)
 
   pub sign-found : clause_of kinds.Sign list ≡ first_in P.sign
   sign-found =
       ap (clause_of kinds.Sign) P.is
-      ∙ skipped kinds.Sign kinds.Redefines P.redefines (P.picture ++ (P.sign ++ (P.occurs ++ P.value))) redefines_only refl
-      ∙ skipped kinds.Sign kinds.Picture P.picture (P.sign ++ (P.occurs ++ P.value)) picture_only refl
-      ∙ found kinds.Sign P.sign (P.occurs ++ P.value) sign_only
+      ∙ skipped kinds.Sign kinds.Redefines P.redefines behind_redefines redefines_only refl
+      ∙ skipped kinds.Sign kinds.Picture P.picture behind_picture picture_only refl
+      ∙ skipped kinds.Sign kinds.Usage P.usage behind_usage usage_only refl
+      ∙ found kinds.Sign P.sign behind_sign sign_only
       (skipped kinds.Sign kinds.Occurs P.occurs P.value occurs_only refl ∙ last-skipped kinds.Sign kinds.Value P.value value_only refl)
 
   pub occurs-found : clause_of kinds.Occurs list ≡ first_in P.occurs
   occurs-found =
       ap (clause_of kinds.Occurs) P.is
-      ∙ skipped kinds.Occurs kinds.Redefines P.redefines (P.picture ++ (P.sign ++ (P.occurs ++ P.value))) redefines_only refl
-      ∙ skipped kinds.Occurs kinds.Picture P.picture (P.sign ++ (P.occurs ++ P.value)) picture_only refl
-      ∙ skipped kinds.Occurs kinds.Sign P.sign (P.occurs ++ P.value) sign_only refl
+      ∙ skipped kinds.Occurs kinds.Redefines P.redefines behind_redefines redefines_only refl
+      ∙ skipped kinds.Occurs kinds.Picture P.picture behind_picture picture_only refl
+      ∙ skipped kinds.Occurs kinds.Usage P.usage behind_usage usage_only refl
+      ∙ skipped kinds.Occurs kinds.Sign P.sign behind_sign sign_only refl
       ∙ found kinds.Occurs P.occurs P.value occurs_only (last-skipped kinds.Occurs kinds.Value P.value value_only refl)
 
   pub value-found : clause_of kinds.Value list ≡ first_in P.value
   value-found =
       ap (clause_of kinds.Value) P.is
-      ∙ skipped kinds.Value kinds.Redefines P.redefines (P.picture ++ (P.sign ++ (P.occurs ++ P.value))) redefines_only refl
-      ∙ skipped kinds.Value kinds.Picture P.picture (P.sign ++ (P.occurs ++ P.value)) picture_only refl
-      ∙ skipped kinds.Value kinds.Sign P.sign (P.occurs ++ P.value) sign_only refl
+      ∙ skipped kinds.Value kinds.Redefines P.redefines behind_redefines redefines_only refl
+      ∙ skipped kinds.Value kinds.Picture P.picture behind_picture picture_only refl
+      ∙ skipped kinds.Value kinds.Usage P.usage behind_usage usage_only refl
+      ∙ skipped kinds.Value kinds.Sign P.sign behind_sign sign_only refl
       ∙ skipped kinds.Value kinds.Occurs P.occurs P.value occurs_only refl
       ∙ last-found kinds.Value P.value value_only
 
@@ -233,8 +277,9 @@ again-part kind next before front back (inr c) h earlier rest =
 pub none-again : {program : Program} {entry : Entry} {list : List Clause} → Parts program entry list → duplicate_fault list ≡ None
 none-again P =
     ap duplicate_fault P.is
-    ∙ again-part kinds.Redefines 1 [] P.redefines (P.picture ++ (P.sign ++ (P.occurs ++ P.value))) (redefines_only P) (omega arith) tt
-    (λ a e. again-part kinds.Picture 3 a P.picture (P.sign ++ (P.occurs ++ P.value)) (picture_only P) (omega arith) e
-    (λ b f. again-part kinds.Sign 4 b P.sign (P.occurs ++ P.value) (sign_only P) (omega arith) f
-    (λ c g. again-part kinds.Occurs 5 c P.occurs P.value (occurs_only P) (omega arith) g
-    (λ d h. ap (again_from d) (sym (append-nil P.value)) ∙ again-part kinds.Value 6 d P.value [] (value_only P) (omega arith) h (λ k l. refl)))))
+    ∙ again-part kinds.Redefines 1 [] P.redefines (behind_redefines P) (redefines_only P) (omega arith) tt
+    (λ a e. again-part kinds.Picture 2 a P.picture (behind_picture P) (picture_only P) (omega arith) e
+    (λ b f. again-part kinds.Usage 3 b P.usage (behind_usage P) (usage_only P) (omega arith) f
+    (λ c g. again-part kinds.Sign 4 c P.sign (behind_sign P) (sign_only P) (omega arith) g
+    (λ d h. again-part kinds.Occurs 5 d P.occurs P.value (occurs_only P) (omega arith) h
+    (λ i j. ap (again_from i) (sym (append-nil P.value)) ∙ again-part kinds.Value 6 i P.value [] (value_only P) (omega arith) j (λ k l. refl))))))

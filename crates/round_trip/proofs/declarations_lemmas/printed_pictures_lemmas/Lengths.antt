@@ -6,6 +6,7 @@ use Rattle.std.proofs.lemmas.Fmt.{length-decimal-le}
 use Rattle.cob_base.specs.Bytes.{left_parenthesis, right_parenthesis}
 use Rattle.cob_tree.specs.declared.picture.Picture.{Picture}
 use Rattle.cob_tree.specs.declared.picture.Picture.TheVariants as pictures
+use Rattle.edit_fields.proofs.PrintedMasksAreShort.{printed_masks_are_short}
 use Rattle.cobol_print.specs.units.Picture.{run_text, some_run, part_text, picture_text}
 use Rattle.round_trip.specs.declarations.printed_pictures.Writable.{IsWritable}
 
@@ -53,3 +54,4 @@ pub picture-short : (picture : Picture) → IsWritable picture → length (pictu
 picture-short (pictures.Number signed whole part) h = let all = number-short signed whole part h.1 in omega (arith, all)
 picture-short (pictures.Letters count) h = let all = run-short (byte "A") count h.1 in omega (arith, all)
 picture-short (pictures.Any count) h = let all = run-short (byte "X") count h.1 in omega (arith, all)
+picture-short (pictures.Edited mask) h = let all = printed_masks_are_short mask h.is_mask h.capitals in omega (arith, all)

@@ -17,9 +17,12 @@ use Rattle.picture_data.specs.declared.symbols.Shape.{Shape}
 use Rattle.picture_data.specs.declared.symbols.Shape.TheVariants as shapes
 use Rattle.picture_data.specs.declared.symbols.Symbols.{Symbols}
 use Rattle.picture_data.specs.Symbols.{symbol_s, symbol_v, behind, most, counted, added, too_many, picture, picture_by, number}
-use Rattle.picture_data.specs.Reading.{read_from, step, step_by, symbol_by, placed, kept, digit, closed, finish, ended, start, flaw_of, picture_of}
+use Rattle.picture_data.specs.Reading.{read_from, step, step_by, symbol_by, placed, kept, digit, closed, finish, ended, start, flaw_of, plain_picture, picture_of}
+use Rattle.picture_data.specs.Edited.{is_edited, edited_picture}
 use Rattle.cobol_print.specs.units.Picture.{run_text, some_run, part_text, picture_text}
 use Rattle.round_trip.specs.declarations.printed_pictures.Writable.{IsWritable}
+use Rattle.round_trip.proofs.declarations_lemmas.printed_pictures_lemmas.Masks.{mask-read-back}
+use Rattle.round_trip.proofs.declarations_lemmas.printed_pictures_lemmas.Plain.{quiet-s, digits-plain, letters-plain, any-plain}
 
 -- from here on this picture is read, whatever was before
 abbrev Gives : Reading → List ℕ → Picture → Type 0
@@ -331,12 +334,22 @@ sign-read : step (to_ascii_uppercase 83) start ≡ Ok (at (some_symbols shapes.S
 unfolding step
 sign-read = refl
 
+plain-read-back : (text : List ℕ) (picture : Picture) → is_edited text ≡ false → Gives start text picture → picture_of text ≡ Ok picture
+plain-read-back text picture plain gives = ap (λ b. if b then edited_picture text else plain_picture text) plain ∙ gives 0
+
 pub pictures_read_back : (picture : Picture) → IsWritable picture → picture_of (picture_text picture) ≡ Ok picture
-pictures_read_back (pictures.Number true whole part) h = byte-on 83 start (at (some_symbols shapes.Signed 0 0) places.Open) (some_run whole ++ part_text part) (pictures.Number true whole part) sign-read (digits-read true whole part h.0 h.1) 0
-pictures_read_back (pictures.Number false whole part) h = digits-read false whole part h.0 h.1 0
+pictures_read_back (pictures.Number true whole part) h =
+    plain-read-back (picture_text (pictures.Number true whole part)) (pictures.Number true whole part)
+    (quiet-s (some_run whole ++ part_text part) ∙ digits-plain whole part h.1)
+    (byte-on 83 start (at (some_symbols shapes.Signed 0 0) places.Open) (some_run whole ++ part_text part) (pictures.Number true whole part) sign-read (digits-read true whole part h.0 h.1))
+pictures_read_back (pictures.Number false whole part) h =
+    plain-read-back (picture_text (pictures.Number false whole part)) (pictures.Number false whole part) (digits-plain whole part h.1) (digits-read false whole part h.0 h.1)
 pictures_read_back (pictures.Letters count) h =
     let none : 0 + count ≡ count = omega arith in
-    letters 65 count shapes.Letters (pictures.Letters count) (refl, refl, refl) refl h.0 h.1 (omega (arith, h.1)) (ap (λ n. Ok (pictures.Letters n)) none) 0
+    plain-read-back (picture_text (pictures.Letters count)) (pictures.Letters count) (letters-plain count h.1)
+    (letters 65 count shapes.Letters (pictures.Letters count) (refl, refl, refl) refl h.0 h.1 (omega (arith, h.1)) (ap (λ n. Ok (pictures.Letters n)) none))
 pictures_read_back (pictures.Any count) h =
     let none : 0 + count ≡ count = omega arith in
-    letters 88 count shapes.Any (pictures.Any count) (refl, refl, refl) refl h.0 h.1 (omega (arith, h.1)) (ap (λ n. Ok (pictures.Any n)) none) 0
+    plain-read-back (picture_text (pictures.Any count)) (pictures.Any count) (any-plain count h.1)
+    (letters 88 count shapes.Any (pictures.Any count) (refl, refl, refl) refl h.0 h.1 (omega (arith, h.1)) (ap (λ n. Ok (pictures.Any n)) none))
+pictures_read_back (pictures.Edited mask) h = mask-read-back mask h

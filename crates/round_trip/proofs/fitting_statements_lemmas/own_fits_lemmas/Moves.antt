@@ -5,7 +5,7 @@ use Rattle.cobol_grammar.specs.declared.expr_forms.side.ExprContent.{ExprContent
 use Rattle.cobol_grammar.specs.declared.expr_forms.side.ExprContent.TheVariants as makes
 use Rattle.cobol_grammar.specs.declared.expr_forms.side.ValueKind.{ValueKind}
 use Rattle.cobol_grammar.specs.declared.expr_forms.side.ValueKind.TheVariants as values
-use Rattle.cobol_grammar.specs.Use.{unless_whole, to_group_fault, number_moved, figure_moved}
+use Rattle.cobol_grammar.specs.Use.{unless_whole, to_group_fault, number_moved, to_number_fault}
 use Rattle.round_trip.specs.spelling.expr_spelling.Printable.{is_number}
 use Rattle.round_trip.specs.spelling.Use.{MayMove}
 use Rattle.round_trip.specs.fitting_statements.own_fits.Move.{may_fill, number_may_move, may_move}
@@ -24,11 +24,12 @@ number-none make whole values.Text position e = unless-none whole position e
 number-none make whole values.Group position e = group-none make whole position e
 number-none make whole to position e = refl
 
-figure-none : (to : ValueKind) (position : Position) → not (is_number to) ≡ true → figure_moved to position ≡ None
+figure-none : (to : ValueKind) (position : Position) → not (is_number to) ≡ true → to_number_fault to position ≡ None
 figure-none (values.Number whole) position e = absurd cc
 figure-none to position e = refl
 
 pub move-free : (make : ExprContent) (from to : ValueKind) → may_move make from to ≡ true → MayMove make from to
 move-free make (values.Number whole) to e position = number-none make whole to position e
+move-free make values.Edited to e position = figure-none to position e
 move-free make values.Figure to e position = figure-none to position e
 move-free make from to e position = refl

@@ -29,7 +29,7 @@ use Rattle.cobol_grammar.specs.declared.subject_kind.SubjectKind.{SubjectKind}
 use Rattle.cobol_grammar.specs.Name.{is_record}
 use Rattle.cobol_grammar.specs.Use.{record_kind}
 use Rattle.cobol_grammar.specs.Whole.{parts_of}
-use Rattle.round_trip.specs.spelling.expr_spelling.Printable.{is_number, is_counting, IsPrintableExpr, IsPrintableOperand, IsPrintablePlace}
+use Rattle.round_trip.specs.spelling.expr_spelling.Printable.{is_number, takes_result, is_counting, IsPrintableExpr, IsPrintableOperand, IsPrintablePlace}
 use Rattle.round_trip.specs.spelling.expr_spelling.Spelled.{PlaceHasRoom, OperandHasRoom}
 use Rattle.round_trip.proofs.spelling_lemmas.expr_spelling_lemmas.Layers.{judged-Place}
 use Rattle.round_trip.specs.spelling.cond_spelling.Printable.{cond_fit}
@@ -166,7 +166,7 @@ module _ (program : Program) where
         turns = λ operand h. turns-counted operand (operand-passes is_counting operand h);
         receives = λ place h. let p = place-passes has_value place h in (place-spelled has_value place p, (free (operands.Place place)).value p.kind);
         number_place = λ place h. let p = place-passes is_number place h in (place-spelled is_number place p, (free (operands.Place place)).number p.kind);
-        result_place = λ place h. let p = place-passes is_number place h in (place-spelled is_number place p, (free (operands.Place place)).number p.kind);
+        result_place = λ place h. let p = place-passes takes_result place h in (place-spelled takes_result place p, (free (operands.Place place)).result p.kind);
         whole_place = λ place h. let p = place-passes is_counting place h in (place-spelled is_counting place p, (free (operands.Place place)).whole p.kind);
         condition_place = λ place h. let p = place-passes is_condition place h in (place-spelled is_condition place p, (free (operands.Place place)).condition p.kind);
         moves = λ from place h. (free from).moves (operands.Place place)

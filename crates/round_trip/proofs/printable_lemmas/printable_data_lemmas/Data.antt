@@ -31,7 +31,7 @@ use Rattle.grammar_laws.specs.form_results.Giving.{Gives}
 use Rattle.grammar_laws.proofs.form_results_lemmas.Giving.{any, hence, still, pure, key, maybe, period, where_next, loop, items_all, some, ◌>>=◌, ◌>>◌}
 use Rattle.round_trip.specs.printable.printable_tokens.Printable.{IsPrintableWord, is_printable_text, IsPrintable}
 use Rattle.round_trip.specs.printable.Part.{is_printable_name, is_printable_place}
-use Rattle.round_trip.proofs.printable_lemmas.printable_exprs_lemmas.Words.{begun, name, text, literal}
+use Rattle.round_trip.proofs.printable_lemmas.printable_exprs_lemmas.Words.{begun, name, picture, text, literal}
 use Rattle.round_trip.specs.printable.printable_data.Drafts.{thru_printable, span_printable, clause_printable, entry_printable, entries_printable, fd_printable, data_printable, status_printable, select_printable, ArePrintable}
 
 many : {A : Type 0} {begin : TokenKind → Bool} {item : Form A} (test : A → Bool) → Gives IsPrintable item (λ x. test x ≡ true) → Gives IsPrintable (form.many begin item) (λ list. all (map test list) ≡ true)
@@ -45,13 +45,13 @@ redefines_clause = key (codes "REDEFINES") >>= (λ at. any words.name >>= (λ fo
 
 picture_clause : Gives IsPrintable clauses.picture_clause (λ clause. clause_printable clause ≡ true)
 unfolding clauses.picture_clause
-picture_clause = any (entry_law.either (codes "PIC") (codes "PICTURE")) >>= (λ at. maybe (codes "IS") >> (any laws.picture >>= (λ found. pure (λ _ _ _. refl))))
+picture_clause = any (entry_law.either (codes "PIC") (codes "PICTURE")) >>= (λ at. maybe (codes "IS") >> (picture >>= (λ found. pure (λ b _ _. b))))
 
 usage_clause : Gives IsPrintable clauses.usage_clause (λ clause. clause_printable clause ≡ true)
-unfolding clauses.usage_clause clauses.usage_behind
+unfolding clauses.usage_clause clauses.usage_behind clauses.usage_alone
 usage_clause =
-    where_next (key (codes "USAGE") >>= (λ at. any (laws.◌>>◌ (laws.maybe (codes "IS")) (laws.key (codes "DISPLAY"))) >> pure (λ _ _. refl)))
-    (key (codes "DISPLAY") >>= (λ at. pure (λ _. refl)))
+    where_next (key (codes "USAGE") >>= (λ at. maybe (codes "IS") >> (any entry_law.usage >>= (λ found. pure (λ _ _ _. refl)))))
+    (any entry_law.usage >>= (λ found. pure (λ _. refl)))
 
 sign_clause : Gives IsPrintable clauses.sign_clause (λ clause. clause_printable clause ≡ true)
 unfolding clauses.sign_clause clauses.sign_behind clauses.side_clause

@@ -6,6 +6,7 @@ use Rattle.std.proofs.lemmas.Bool.{and_parts, leb-true, lt-ltb}
 use Rattle.std.proofs.lemmas.Bool.Decides.{nat_tests}
 use Rattle.cob_tree.specs.declared.entry.Entry.{Entry}
 use Rattle.cob_tree.specs.declared.picture.Picture.{Picture}
+use Rattle.cob_tree.specs.declared.picture.Usage.{Usage}
 use Rattle.picture_data.specs.Reading.{picture_of as picture_of_text}
 use Rattle.cobol_grammar.specs.declared.data_forms.draft.Clause.{Clause}
 use Rattle.cobol_grammar.specs.declared.data_forms.draft.Clause.TheVariants as clauses
@@ -20,19 +21,19 @@ use Rattle.symbol_tables.specs.data_names.Names.{is_group}
 use Rattle.declaration_checks.specs.declared.clause.ClauseKind.TheVariants as kinds
 use Rattle.declaration_checks.specs.Base.{number_of, level_by, level_of, picture_if, picture_by, picture_in, is_count, count_of, occurs_in, spans_in, spans_of, value_of, to_of, span_of, condition_of, item_of, base_of}
 use Rattle.declaration_checks.specs.Clause.{clause_of, is_of}
-use Rattle.declaration_checks.specs.Declaring.{section_bases, record_bases, bases_of, settled, settled_at, settle, settle_all, settle_records, entries_of}
+use Rattle.declaration_checks.specs.Declaring.{section_bases, record_bases, bases_of, settled, settled_at, settle, settle_all, settle_records, usages_in, entries_of}
 use Rattle.declaration_checks.specs.File.{file_number, status_by, file_of}
 use Rattle.declaration_checks.specs.Standing.{behind}
 use Rattle.control_flow_theory.specs.language.All.{all}
 use Rattle.program_facts.specs.well_scoped.Part.{if_any}
 use Rattle.program_facts.proofs.well_scoped_lemmas.Made.{both, all-added}
-use Rattle.round_trip.specs.printable.printable_tokens.Printable.{is_printable_text}
+use Rattle.round_trip.specs.printable.printable_tokens.Printable.{is_printable_text, begins_well}
 use Rattle.round_trip.specs.printable.Part.{is_printable_name, is_printable_place, is_printable_operand}
 use Rattle.round_trip.specs.printable.Whole.{is_printable_file, is_printable_picture, is_printable_span, is_printable_count, is_printable_entry}
 use Rattle.round_trip.proofs.printable_lemmas.Tokens.{entry-fine}
 use Rattle.round_trip.specs.printable.printable_data.Drafts.{thru_printable, span_printable, clause_printable, entry_printable, entries_printable, fd_printable, data_printable, status_printable, select_printable}
 use Rattle.round_trip.specs.printable.printable_data.Laws.{EntriesArePrintable}
-use Rattle.round_trip.proofs.printable_lemmas.printable_data_lemmas.Pictures.{start-printable}
+use Rattle.round_trip.proofs.printable_lemmas.printable_data_lemmas.Pictures.{text-printable}
 
 -- ---- what a draft says by itself
 
@@ -55,21 +56,21 @@ level-below n = go (nat_lt n 50 || (n == 77 || n == 88)) refl
     go true e = below-hundred n e
     go false e = refl
 
-text-picture : (text : List ℕ) → if_any is_printable_picture (picture_by text) ≡ true
-text-picture text = go (nat_lt (length text) (2 ^ 31))
+text-picture : (text : List ℕ) → begins_well text ≡ true → if_any is_printable_picture (picture_by text) ≡ true
+text-picture text h = go (nat_lt (length text) (2 ^ 31))
   where
     go : (b : Bool) → if_any is_printable_picture (if b then picture_if (picture_of_text text) else None) ≡ true
-    go true = start-printable text
+    go true = text-printable text h
     go false = refl
 
-clause-picture : (clause : Option Clause) → if_any is_printable_picture (picture_in clause) ≡ true
-clause-picture None = refl
-clause-picture (Some (clauses.Value at spans)) = refl
-clause-picture (Some (clauses.Redefines at name name_at)) = refl
-clause-picture (Some (clauses.Picture at text text_at)) = text-picture text
-clause-picture (Some (clauses.Usage at)) = refl
-clause-picture (Some (clauses.Sign at leading separate)) = refl
-clause-picture (Some (clauses.Occurs at count count_at)) = refl
+clause-picture : (clause : Option Clause) → if_any clause_printable clause ≡ true → if_any is_printable_picture (picture_in clause) ≡ true
+clause-picture None h = refl
+clause-picture (Some (clauses.Value at spans)) h = refl
+clause-picture (Some (clauses.Redefines at name name_at)) h = refl
+clause-picture (Some (clauses.Picture at text text_at)) h = text-picture text h
+clause-picture (Some (clauses.Usage at usage)) h = refl
+clause-picture (Some (clauses.Sign at leading separate)) h = refl
+clause-picture (Some (clauses.Occurs at count count_at)) h = refl
 
 small-count : (n : ℕ) → is_count n ≡ true → is_printable_count n ≡ true
 small-count n h =
@@ -87,7 +88,7 @@ clause-occurs None = refl
 clause-occurs (Some (clauses.Value at spans)) = refl
 clause-occurs (Some (clauses.Redefines at name name_at)) = refl
 clause-occurs (Some (clauses.Picture at text text_at)) = refl
-clause-occurs (Some (clauses.Usage at)) = refl
+clause-occurs (Some (clauses.Usage at usage)) = refl
 clause-occurs (Some (clauses.Sign at leading separate)) = refl
 clause-occurs (Some (clauses.Occurs at count count_at)) = count-fine count
 
@@ -99,7 +100,7 @@ spans_in-fine None h = refl
 spans_in-fine (Some (clauses.Value at spans)) h = h
 spans_in-fine (Some (clauses.Redefines at name name_at)) h = refl
 spans_in-fine (Some (clauses.Picture at text text_at)) h = refl
-spans_in-fine (Some (clauses.Usage at)) h = refl
+spans_in-fine (Some (clauses.Usage at usage)) h = refl
 spans_in-fine (Some (clauses.Sign at leading separate)) h = refl
 spans_in-fine (Some (clauses.Occurs at count count_at)) h = refl
 
@@ -126,12 +127,13 @@ base-fine : (file : Option ℕ) (draft : EntryDraft) → entry_printable draft �
 base-fine file draft h =
     let e = and_parts (if_any is_printable_name draft.name) (all (map clause_printable draft.clauses)) h in
     go (level_of draft.level == 88) e.0 (spans_of-fine draft.clauses e.1)
+    (clause-picture (clause_of kinds.Picture draft.clauses) (find-fine clause_printable (is_of kinds.Picture) draft.clauses e.1))
   where
-    go : (b : Bool) → if_any is_printable_name draft.name ≡ true → Spans (spans_of draft.clauses) →
+    go : (b : Bool) → if_any is_printable_name draft.name ≡ true → Spans (spans_of draft.clauses) → if_any is_printable_picture (picture_in (clause_of kinds.Picture draft.clauses)) ≡ true →
         is_printable_entry (if b then condition_of draft file else item_of draft (level_of draft.level) file) ≡ true
-    go true n s = both (both (both (both (both refl n) refl) refl) refl) (ranges-fine (spans_of draft.clauses) s)
-    go false n s =
-        both (both (both (both (both (level-below (number_of draft.level)) n) (clause-picture (clause_of kinds.Picture draft.clauses)))
+    go true n s p = both (both (both (both (both refl n) refl) refl) refl) (ranges-fine (spans_of draft.clauses) s)
+    go false n s p =
+        both (both (both (both (both (level-below (number_of draft.level)) n) p)
         (clause-occurs (clause_of kinds.Occurs draft.clauses))) (value-fine (spans_of draft.clauses) s)) refl
 
 -- ---- all of them
@@ -169,8 +171,8 @@ group-picture : (b : Bool) (picture : Option Picture) → if_any is_printable_pi
 group-picture true picture h = refl
 group-picture false picture h = h
 
-module _ (bases : List Entry) (fine : Entries bases) where
-  settled-fine : (at : ℕ) (draft : EntryDraft) (entry : Entry) → is_printable_entry entry ≡ true → is_printable_entry (settled bases at draft entry) ≡ true
+module _ (bases : List Entry) (usages : List (Option Usage)) (fine : Entries bases) where
+  settled-fine : (at : ℕ) (draft : EntryDraft) (entry : Entry) → is_printable_entry entry ≡ true → is_printable_entry (settled bases usages at draft entry) ≡ true
   settled-fine at draft entry h =
       let e = entry-fine entry h in
       both (both (both (both (both e.level e.name) (group-picture (is_group entry (behind bases at)) entry.picture e.picture)) e.occurs) e.value) e.ranges
@@ -184,25 +186,26 @@ module _ (bases : List Entry) (fine : Entries bases) where
       some_is x y e = cc
   at-fine (first ∷ list) (suc i) entry s e = at-fine list i entry (and_parts (is_printable_entry first) (all (map is_printable_entry list)) s).1 e
 
-  next-fine : (entries : List Entry) (draft : EntryDraft) (o : Option Entry) → slice_get bases (length entries) ≡ o → Entries entries → Entries (settled_at bases entries draft o)
+  next-fine : (entries : List Entry) (draft : EntryDraft) (o : Option Entry) → slice_get bases (length entries) ≡ o → Entries entries → Entries (settled_at bases usages entries draft o)
   next-fine entries draft None is s = s
   next-fine entries draft (Some entry) is s =
-      all-added is_printable_entry entries (settled bases (length entries) draft entry) s
+      all-added is_printable_entry entries (settled bases usages (length entries) draft entry) s
       (settled-fine (length entries) draft entry (at-fine bases (length entries) entry fine is))
 
-  all-fine : (drafts : List EntryDraft) (entries : List Entry) → Entries entries → Entries (settle_all bases entries drafts)
+  all-fine : (drafts : List EntryDraft) (entries : List Entry) → Entries entries → Entries (settle_all bases usages entries drafts)
   all-fine [] entries s = s
-  all-fine (draft ∷ drafts) entries s = all-fine drafts (settle bases entries draft) (next-fine entries draft (slice_get bases (length entries)) refl s)
+  all-fine (draft ∷ drafts) entries s = all-fine drafts (settle bases usages entries draft) (next-fine entries draft (slice_get bases (length entries)) refl s)
 
-  fds-fine : (fds : List FdDraft) (entries : List Entry) → Entries entries → Entries (fold (settle_records bases) entries fds)
+  fds-fine : (fds : List FdDraft) (entries : List Entry) → Entries entries → Entries (fold (settle_records bases usages) entries fds)
   fds-fine [] entries s = s
-  fds-fine (fd ∷ fds) entries s = fds-fine fds (settle_records bases entries fd) (all-fine fd.entries entries s)
+  fds-fine (fd ∷ fds) entries s = fds-fine fds (settle_records bases usages entries fd) (all-fine fd.entries entries s)
 
 pub entries-fine : (divisions : Divisions) → data_printable divisions.data_part ≡ true → Entries (entries_of divisions)
 entries-fine divisions h =
     let bases = bases_of divisions in
+    let usages = usages_in bases divisions in
     let fine = bases-fine divisions h in
-    all-fine bases fine divisions.data_part.storage (fold (settle_records bases) [] divisions.data_part.fds) (fds-fine bases fine divisions.data_part.fds [] refl)
+    all-fine bases usages fine divisions.data_part.storage (fold (settle_records bases usages) [] divisions.data_part.fds) (fds-fine bases usages fine divisions.data_part.fds [] refl)
 
 -- ---- files
 

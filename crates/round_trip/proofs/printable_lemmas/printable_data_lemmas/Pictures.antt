@@ -1,10 +1,11 @@
--- A picture that is read has 1 to 18 digits, or 1 to 65,535 characters.
-use Rattle.std.proofs.Common.{◌≡◌, ℕ, ◌+◌, ◌-◌, ◌*◌, ◌≤◌, Bool, true, false, if◌then◌else◌, List, [], ◌∷◌, Option, Some, None, Result, Ok, Err, refl, ap, sym, ◌∙◌, arith}
-use Rattle.std.specs.Prelude.{◌==◌, ◌||◌, ◌&&◌, nat_le}
+-- A picture that is read has 1 to 18 digits, or 1 to 65,535 characters, or is a mask.
+use Rattle.std.proofs.Common.{◌≡◌, ℕ, ◌+◌, ◌-◌, ◌*◌, ◌≤◌, Bool, true, false, if◌then◌else◌, List, [], ◌∷◌, Option, Some, None, Result, Ok, Err, refl, ap, sym, ◌∙◌, subst, arith}
+use Rattle.std.specs.Prelude.{◌==◌, ◌||◌, ◌&&◌, not, map, nat_le, slice_index, is_some}
 use Rattle.std.specs.Char.{to_ascii_uppercase}
-use Rattle.std.proofs.lemmas.Bool.{leb-true, le-leb}
+use Rattle.std.specs.List.{list_all}
+use Rattle.std.proofs.lemmas.Bool.{eq-eqb, eqb-true, leb-true, le-leb}
 use Rattle.std.proofs.lemmas.Bool.Decides.{nat_tests}
-use Rattle.cob_base.specs.Bytes.{digit_0, digit_9, left_parenthesis, right_parenthesis}
+use Rattle.cob_base.specs.Bytes.{comma, digit_0, digit_9, left_parenthesis, right_parenthesis}
 use Rattle.cob_tree.specs.declared.picture.Picture.{Picture}
 use Rattle.cob_tree.specs.declared.picture.Picture.TheVariants as pictures
 use Rattle.picture_data.specs.declared.fault.Flaw.{Flaw}
@@ -15,12 +16,23 @@ use Rattle.picture_data.specs.declared.reading.Reading.{Reading}
 use Rattle.picture_data.specs.declared.symbols.Shape.{Shape}
 use Rattle.picture_data.specs.declared.symbols.Shape.TheVariants as shapes
 use Rattle.picture_data.specs.declared.symbols.Symbols.{Symbols}
-use Rattle.picture_data.specs.Reading.{start, placed, symbol_by, symbol, kept, digit, closed, in_count, flaw_of, step_by, step, finish_by, finish, ended, read_from}
+use Rattle.picture_data.specs.Reading.{start, placed, symbol_by, symbol, kept, digit, closed, in_count, flaw_of, step_by, step, finish_by, finish, ended, read_from, plain_picture, picture_of}
+use Rattle.picture_data.specs.Edited.{first_plain, is_edited, edited_picture, edited_by, picture_by as mask_picture}
+use Rattle.edit_fields.specs.declared.fault.MaskFault.{MaskFault}
+use Rattle.edit_fields.specs.Mask.{held_unless}
+use Rattle.edit_fields.specs.Reading.{start as mask_start, step as mask_step, symbol_fault, fault_from, mask_fault_of, written_from, written_out}
+use Rattle.edit_fields.specs.Shape.{behind as mask_behind}
+use Rattle.edit_fields.proofs.BranchLemmas.{either_way}
+use Rattle.edit_fields.proofs.HeldMasks.{held_of}
+use Rattle.edit_fields.proofs.MasksAreWrittenOut.{err_none}
+use Rattle.edit_fields.proofs.PrintedMasksAreRead.{capital_first, capital_rest}
+use Rattle.cobol_lex.specs.Byte.{is_separator}
 use Rattle.picture_data.specs.Symbols.{symbol_s, symbol_v, symbol_9, symbol_a, symbol_x, behind_sign, behind_point, behind_nine, behind_letter, behind_any, behind, most, too_many, counted, added, number, picture_by}
 use Rattle.declaration_checks.specs.Base.{picture_if}
 use Rattle.program_facts.specs.well_scoped.Part.{if_any}
 use Rattle.program_facts.proofs.well_scoped_lemmas.Made.{both}
-use Rattle.round_trip.specs.printable.Whole.{is_printable_picture}
+use Rattle.round_trip.specs.printable.printable_tokens.Printable.{begins_well}
+use Rattle.round_trip.specs.printable.Whole.{is_capital, is_printable_mask, is_printable_picture}
 
 -- ---- what holds of the symbols so far
 
@@ -205,7 +217,7 @@ stepped : (byte : ℕ) (reading : Reading) → Fine reading.symbols → ReadingF
 unfolding step
 stepped byte reading h = step-fine reading.place byte reading h
 
-pub read-printable : (count : ℕ) (reading : Result Reading Flaw) (text : List ℕ) → ReadingFine reading →
+read-printable : (count : ℕ) (reading : Result Reading Flaw) (text : List ℕ) → ReadingFine reading →
     if_any is_printable_picture (picture_if (read_from count reading text)) ≡ true
 unfolding read_from
 read-printable count (Err flaw) text h = refl
@@ -213,5 +225,50 @@ read-printable count (Ok reading) [] h = finished count reading h
 read-printable count (Ok reading) (byte ∷ text) h =
     read-printable (count + 1) (step (to_ascii_uppercase byte) reading) text (stepped (to_ascii_uppercase byte) reading h)
 
-pub start-printable : (text : List ℕ) → if_any is_printable_picture (picture_if (read_from 0 (Ok start) text)) ≡ true
+start-printable : (text : List ℕ) → if_any is_printable_picture (picture_if (plain_picture text)) ≡ true
 start-printable text = read-printable 0 (Ok start) text (record { few = omega arith; some = λ e. apart e })
+
+-- ---- a mask
+
+all-capitals : (mask : List ℕ) → map to_ascii_uppercase mask ≡ mask → list_all is_capital mask ≡ true
+all-capitals [] e = refl
+all-capitals (b ∷ mask) e = both (eq-eqb (to_ascii_uppercase b) b (capital_first b mask e)) (all-capitals mask (capital_rest b mask e))
+
+no-comma : (b : ℕ) → not (is_separator b) ≡ true → (to_ascii_uppercase b == comma) ≡ false
+no-comma b h = grind (arith, nat_tests)
+
+-- no mask begins with a parenthesis
+no-count : (n : ℕ) (rest : List ℕ) → fault_from n (mask_step n 40 mask_start) rest ≡ None → ⊥
+unfolding fault_from mask_step mask_behind
+no-count n rest e = err_none n (symbol_fault n 40) rest e
+
+-- it begins as its text does
+first-symbol : (text : List ℕ) → begins_well text ≡ true → mask_fault_of text ≡ None → (slice_index (written_out text) 0 == comma) ≡ false
+unfolding written_from fault_from
+first-symbol [] h e = refl
+first-symbol (b ∷ rest) h e =
+    either_way (λ (l : List ℕ). (slice_index l 0 == comma) ≡ false) (to_ascii_uppercase b == 40) _ _
+    (λ is. absurd (no-count 1 rest (subst (λ c. fault_from 1 (mask_step 1 c mask_start) rest ≡ None) (eqb-true (to_ascii_uppercase b) 40 is) e)))
+    (λ _. no-comma b h)
+
+mask-printable : (text : List ℕ) → begins_well text ≡ true → mask_fault_of text ≡ None → is_printable_mask (written_out text) ≡ true
+mask-printable text h e =
+    let held = held_of text e in
+    both
+    (both (both (ap (λ o. not (is_some o)) held.is_mask.no_fault) held.is_mask.written_out) (all-capitals (written_out text) held.capitals))
+    (ap not (first-symbol text h e))
+
+held-printable : (text : List ℕ) (fault : Option MaskFault) → begins_well text ≡ true → mask_fault_of text ≡ fault → if_any is_printable_picture (picture_if (mask_picture (held_unless fault text))) ≡ true
+held-printable text None h e = mask-printable text h e
+held-printable text (Some fault) h e = refl
+
+edited-printable : (text : List ℕ) (plain : Option ℕ) → begins_well text ≡ true → if_any is_printable_picture (picture_if (edited_by plain text)) ≡ true
+edited-printable text None h = held-printable text (mask_fault_of text) h refl
+edited-printable text (Some position) h = refl
+
+pub text-printable : (text : List ℕ) → begins_well text ≡ true → if_any is_printable_picture (picture_if (picture_of text)) ≡ true
+text-printable text h = go (is_edited text)
+  where
+    go : (b : Bool) → if_any is_printable_picture (picture_if (if b then edited_picture text else plain_picture text)) ≡ true
+    go true = edited-printable text (first_plain 0 text) h
+    go false = start-printable text

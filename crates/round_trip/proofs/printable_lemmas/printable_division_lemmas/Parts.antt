@@ -7,7 +7,6 @@ use Rattle.cobol_grammar.specs.expr_forms.Side as sides
 use Rattle.symbol_tables.specs.data_names.Names.{Names}
 use Rattle.symbol_tables.specs.declared.procedure_names.table.ProcedureTable.{ProcedureTable}
 use Rattle.symbol_tables.specs.procedure_names.Procedures as procedures
-use Rattle.cobol_grammar.specs.stmt_forms.Paragraph as paragraphs
 use Rattle.cobol_grammar.specs.Name as words
 use Rattle.cobol_grammar.specs.Use as uses
 use Rattle.cobol_grammar.specs.Whole.{parts_of}

@@ -25,7 +25,7 @@ use Rattle.program_facts.proofs.well_scoped_lemmas.Made.{both}
 use Rattle.grammar_laws.specs.form_results.Giving.{Gives}
 use Rattle.grammar_laws.proofs.form_results_lemmas.Giving.{any, pure, one, valued, where_next, ◌>>=◌}
 use Rattle.grammar_laws.proofs.form_results_lemmas.Literals.{whole-named}
-use Rattle.round_trip.specs.printable.printable_tokens.Printable.{IsPrintableWord, is_printable_text, IsPrintable}
+use Rattle.round_trip.specs.printable.printable_tokens.Printable.{IsPrintableWord, is_printable_text, begins_well, IsPrintable}
 use Rattle.round_trip.specs.printable.Part.{is_printable_name, is_printable_operand}
 use Rattle.round_trip.proofs.printable_lemmas.Made.{made-Number-operand, made-Text-operand, made-Figure-operand}
 
@@ -135,11 +135,26 @@ text-token kinds.LessEqual text k e = absurd cc
 text-token kinds.GreaterEqual text k e = absurd cc
 text-token kinds.Power text k e = absurd cc
 
+picture-token : (kind : TokenKind) (picture : List ℕ) → IsPrintable kind → part.picture_of kind ≡ Some picture → begins_well picture ≡ true
+picture-token (kinds.Picture found) picture k e = subst (λ t. begins_well t ≡ true) (some-is e) k
+picture-token (kinds.Word word) picture k e = absurd cc
+picture-token (kinds.Digits digits) picture k e = absurd cc
+picture-token (kinds.Decimal number) picture k e = absurd cc
+picture-token (kinds.Literal text) picture k e = absurd cc
+picture-token kinds.Period picture k e = absurd cc
+picture-token (kinds.Mark byte) picture k e = absurd cc
+picture-token kinds.LessEqual picture k e = absurd cc
+picture-token kinds.GreaterEqual picture k e = absurd cc
+picture-token kinds.Power picture k e = absurd cc
+
 pub digits : Gives IsPrintable part.digits (λ found. are_digits found.0 ≡ true)
 digits = valued part.digits_of digits-token
 
 pub decimal : Gives IsPrintable part.decimal (λ found. number_named found.0 ≡ true)
 decimal = valued part.decimal_of decimal-token
+
+pub picture : Gives IsPrintable part.picture (λ found. begins_well found.0 ≡ true)
+picture = valued part.picture_of picture-token
 
 pub text : Gives IsPrintable part.literal (λ found. is_printable_text found.0 ≡ true)
 text = valued part.literal_of text-token

@@ -18,7 +18,7 @@ use Rattle.cobol_grammar.proofs.stmt_forms_lemmas.SimpleLaws as law
 use Rattle.program_facts.specs.well_scoped.Part.{if_any}
 use Rattle.program_facts.proofs.well_scoped_lemmas.Made.{both}
 use Rattle.grammar_laws.specs.form_results.Giving.{Gives}
-use Rattle.grammar_laws.proofs.form_results_lemmas.Giving.{Full, full-added, any, hence, still, pure, refuse, note, key, maybe, where_next, loop, added, items, some, ◌>>=◌, ◌>>◌}
+use Rattle.grammar_laws.proofs.form_results_lemmas.Giving.{Full, full-added, any, hence, still, pure, refuse, note, key, maybe, where_next, added, items, some, ◌>>=◌, ◌>>◌}
 use Rattle.round_trip.specs.printable.printable_tokens.Printable.{IsPrintable}
 use Rattle.round_trip.specs.printable.Part.{is_printable_place, is_printable_operand}
 use Rattle.round_trip.specs.printable.Beside.{is_printable_calc, is_printable_target}

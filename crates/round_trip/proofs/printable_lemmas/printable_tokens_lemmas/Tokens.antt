@@ -1,6 +1,6 @@
 -- The tokens of a source can be printed.
 use Rattle.std.proofs.Common.{◌≡◌, ℕ, zero, suc, ◌<◌, ◌+◌, ◌-◌, Bool, true, false, not, ◌&&◌, List, [], ◌∷◌, length, take, Option, Some, None, refl, ap, sym, ◌∙◌, subst, arith, cond}
-use Rattle.std.specs.Prelude.{All, ◌||◌, ◌==◌, nat_le, nat_lt, Result, Ok, Err, if◌then◌else◌}
+use Rattle.std.specs.Prelude.{All, slice_index, ◌||◌, ◌==◌, nat_le, nat_lt, Result, Ok, Err, if◌then◌else◌}
 use Rattle.std.specs.Char.{to_ascii_uppercase}
 use Rattle.std.specs.List.{list_all, list_any, prefix_len}
 use Rattle.std.proofs.lemmas.Bool.{and_parts, leb-true}
@@ -11,12 +11,12 @@ use Rattle.cob_base.specs.Spelling.{folded, word_byte}
 use Rattle.cob_base.proofs.Capitals.{folded-capital}
 use Rattle.ref_format.specs.declared.placed.Placed.{Placed}
 use Rattle.ref_format.specs.Placed.{bytes_of}
-use Rattle.cobol_lex.specs.Byte.{is_separator, is_digit, is_point, is_sign, is_quote, is_letter, is_mark, begins}
+use Rattle.cobol_lex.specs.Byte.{is_white, is_separator, is_digit, is_point, is_sign, is_quote, is_letter, is_mark, begins}
 use Rattle.cobol_lex.specs.Awaits.{awaits_behind, awaits_picture}
 use Rattle.cobol_lex.specs.Lexeme.{lexeme_of, mark_lexeme, plain_lexeme, next_lexeme}
 use Rattle.cobol_lex.specs.Literal.{with_byte, quoted_by, quoted_lexeme}
 use Rattle.cobol_lex.specs.Number.{begins_number, number_run, number_kind, decimal_kind, digits_kind, digits_of, unsigned, is_decimal}
-use Rattle.cobol_lex.specs.Picture.{picture_run, picture_lexeme}
+use Rattle.cobol_lex.specs.Picture.{ends_picture, less_last, filled_run, picture_run, picture_lexeme}
 use Rattle.cobol_lex.specs.Token.{with_token, after_lexeme, tokens_from}
 use Rattle.cobol_lex.specs.Word.{word_run, word_kind, fits_word}
 use Rattle.cobol_lex.specs.Written.{AreDigits}
@@ -36,15 +36,16 @@ use Rattle.grammar_laws.specs.form_results.Numbered.{IsNumbered}
 use Rattle.grammar_laws.proofs.well_scoped_lemmas.named_tokens_lemmas.Tokens.{numbered}
 use Rattle.round_trip.proofs.printable_lemmas.printable_tokens_lemmas.Clean.{is_clean, Clean, text-clean}
 use Rattle.round_trip.specs.printable.printable_tokens.Laws.{TokensArePrintable}
-use Rattle.round_trip.specs.printable.printable_tokens.Printable.{IsPrintableWord, is_printable_text, IsPrintable}
+use Rattle.round_trip.specs.printable.printable_tokens.Printable.{IsPrintableWord, is_printable_text, begins_well, IsPrintable}
 
 abbrev CleanBytes : List ℕ → Type 0
 CleanBytes bytes = All (λ b. is_clean b ≡ true) bytes
 
--- words and literals can be printed
+-- words, literals and pictures can be printed
 abbrev IsSpelled : TokenKind → Type 0
 IsSpelled (kinds.Word word) = IsPrintableWord word
 IsSpelled (kinds.Literal text) = is_printable_text text ≡ true
+IsSpelled (kinds.Picture picture) = begins_well picture ≡ true
 IsSpelled _ = Unit {0}
 
 abbrev KindFine : Result TokenKind LexError → Type 0
@@ -165,13 +166,28 @@ plain_fine before line (b ∷ rest) h =
     (λ _. either LexemeFine (is_letter b) _ _
     (λ letter. of_kind _ (word_kind line (word_run (b ∷ rest))) (word_fine line (word_run (b ∷ rest)) (lettered b rest letter))) (λ _. mark_fine line b rest)))
 
-picture_fine : (line : ℕ) (run : List ℕ) → LexemeFine (picture_lexeme line run)
-picture_fine line [] = tt
-picture_fine line (b ∷ run) = tt
+no-white : (b : ℕ) → is_separator b ≡ false → not (is_white b) ≡ true
+no-white b h = grind (arith, nat_tests)
 
-next_fine : (awaits : Awaits) (before line : ℕ) (bytes : List ℕ) → CleanBytes bytes → LexemeFine (next_lexeme awaits before line bytes)
-next_fine awaits before line bytes h =
-    either LexemeFine (awaits_picture awaits bytes) _ _ (λ _. picture_fine line (picture_run bytes)) (λ _. plain_fine before line bytes h)
+-- a picture begins with the first byte
+begun_fine : (line b : ℕ) (run : List ℕ) → is_separator b ≡ false → LexemeFine (picture_lexeme line (less_last ends_picture (b ∷ run)))
+begun_fine line b run h =
+    either (λ run. LexemeFine (picture_lexeme line run)) (ends_picture (slice_index (b ∷ run) (length (b ∷ run) - 1))) _ _ (λ _. less (length (b ∷ run) - 1)) (λ _. ap not h)
+  where
+    less : (n : ℕ) → LexemeFine (picture_lexeme line (take n (b ∷ run)))
+    less zero = tt
+    less (suc n) = ap not h
+
+picture_fine : (line : ℕ) (bytes : List ℕ) → is_separator (slice_index bytes 0) ≡ false → LexemeFine (picture_lexeme line (picture_run bytes))
+picture_fine line [] h = tt
+picture_fine line (b ∷ rest) h =
+    subst (λ run. LexemeFine (picture_lexeme line (less_last ends_picture run)))
+    (sym (taken-one (not (is_white b)) (prefix_len (λ c. not (is_white c)) rest) b rest (no-white b h)))
+    (begun_fine line b (filled_run rest) h)
+
+next_fine : (awaits : Awaits) (before line : ℕ) (bytes : List ℕ) → CleanBytes bytes → is_separator (slice_index bytes 0) ≡ false → LexemeFine (next_lexeme awaits before line bytes)
+next_fine awaits before line bytes h apart =
+    either LexemeFine (awaits_picture awaits bytes) _ _ (λ _. picture_fine line bytes apart) (λ _. plain_fine before line bytes h)
 
 -- ---- tokens
 
@@ -195,7 +211,7 @@ fine (suc taken) awaits before (p ∷ rest) h = fine taken awaits p.byte rest (A
 fine zero awaits before (p ∷ rest) h =
     let behind : Clean rest = All-tail (λ p. is_clean p.byte ≡ true) p rest h in
     either AreFine (is_separator p.byte) _ _ (λ _. fine 0 awaits p.byte rest behind)
-    (λ _. lexeme_fine (next_lexeme awaits before p.line (bytes_of (p ∷ rest))) _ (next_fine awaits before p.line (bytes_of (p ∷ rest)) (bytes_clean (p ∷ rest) h))
+    (λ apart. lexeme_fine (next_lexeme awaits before p.line (bytes_of (p ∷ rest))) _ (next_fine awaits before p.line (bytes_of (p ∷ rest)) (bytes_clean (p ∷ rest) h) apart)
     (λ lexeme k. token_fine (record { kind = lexeme.kind; line = p.line }) _ k (fine (lexeme.length - 1) (awaits_behind awaits lexeme.kind) p.byte rest behind)))
 
 -- ---- with their numbers
@@ -217,7 +233,7 @@ one-printable (kinds.Decimal number) n s =
     let e = and_parts (are_digits number.digits) (nat_le number.scale (length number.digits)) n in
     (digits-are number.digits e.0, leb-true number.scale (length number.digits) e.1)
 one-printable (kinds.Literal text) n s = s
-one-printable (kinds.Picture picture) n s = tt
+one-printable (kinds.Picture picture) n s = s
 one-printable (kinds.Mark b) n s = tt
 one-printable kinds.Period n s = tt
 one-printable kinds.LessEqual n s = tt

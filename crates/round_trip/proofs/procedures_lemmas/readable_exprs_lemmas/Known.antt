@@ -32,11 +32,11 @@ use Rattle.cobol_grammar.specs.declared.expr_forms.side.ValueKind.TheVariants as
 use Rattle.cobol_grammar.specs.declared.expr_forms.side.ParsedExpr.TheVariants as whats
 use Rattle.cobol_grammar.specs.expr_forms.Chain as chains
 use Rattle.cobol_grammar.specs.expr_forms.Either as eithers
-use Rattle.cobol_grammar.specs.expr_forms.Fault.{usage, item_of, is_whole, number_fault, number_fault_at, whole_fault_at, value_fault_at, condition_fault_at, item_kind, kind_of, is_condition, found_fault}
+use Rattle.cobol_grammar.specs.expr_forms.Fault.{usage, item_of, is_whole, number_fault, number_fault_at, result_fault_at, whole_fault_at, value_fault_at, condition_fault_at, item_kind, kind_of, is_condition, found_fault}
 use Rattle.cobol_grammar.specs.expr_forms.Side as sides
 use Rattle.cobol_grammar.specs.expr_forms.Side.{expr_of, place_of, kind_within, windowed, literal_kind}
 use Rattle.program_facts.proofs.well_scoped_lemmas.Made.{both}
-use Rattle.round_trip.specs.spelling.expr_spelling.Printable.{reference, is_number, is_counting, is_exact, are_data_words, suits, are_fit, if_fit, kind_seen, judged_expr, judged_place, judged_sub, IsPrintableExpr, IsPrintableOperand, IsPrintablePlace}
+use Rattle.round_trip.specs.spelling.expr_spelling.Printable.{reference, is_number, takes_result, is_counting, is_exact, are_data_words, suits, are_fit, if_fit, kind_seen, judged_expr, judged_place, judged_sub, IsPrintableExpr, IsPrintableOperand, IsPrintablePlace}
 use Rattle.round_trip.specs.spelling.expr_spelling.Printable as judging
 use Rattle.round_trip.specs.spelling.expr_spelling.Spelled.{IsOperandSide, IsExprSide}
 use Rattle.round_trip.proofs.spelling_lemmas.expr_spelling_lemmas.Layers.{judged-Leaf, judged-Minus, judged-Both, judged-Place, judged-place, judged_windows, judged-sub, terms-Both}
@@ -49,16 +49,27 @@ use Rattle.round_trip.proofs.procedures_lemmas.readable_exprs_lemmas.Words.{is_t
 pub number-of : (position : Position) (kind : ValueKind) → number_fault_at position kind ≡ None → is_there kind ≡ true → is_number kind ≡ true
 number-of position (values.Number whole) n t = refl
 number-of position values.Text n t = absurd cc
+number-of position values.Edited n t = absurd cc
 number-of position values.Group n t = absurd cc
 number-of position values.Figure n t = absurd cc
 number-of position values.Condition n t = absurd cc
 number-of position values.Unknown n t = absurd (both_ways false refl t)
+
+pub result-of : (position : Position) (kind : ValueKind) → result_fault_at position kind ≡ None → is_there kind ≡ true → takes_result kind ≡ true
+result-of position values.Edited n t = refl
+result-of position (values.Number whole) n t = refl
+result-of position values.Text n t = absurd cc
+result-of position values.Group n t = absurd cc
+result-of position values.Figure n t = absurd cc
+result-of position values.Condition n t = absurd cc
+result-of position values.Unknown n t = absurd (both_ways false refl t)
 
 pub whole-of : (position : Position) (kind : ValueKind) → whole_fault_at position kind ≡ None → is_there kind ≡ true → is_counting kind ≡ true
 unfolding whole_fault_at
 whole-of position (values.Number true) n t = refl
 whole-of position (values.Number false) n t = absurd cc
 whole-of position values.Text n t = absurd cc
+whole-of position values.Edited n t = absurd cc
 whole-of position values.Group n t = absurd cc
 whole-of position values.Figure n t = absurd cc
 whole-of position values.Condition n t = absurd cc
@@ -67,6 +78,7 @@ whole-of position values.Unknown n t = absurd (both_ways false refl t)
 pub value-of : (position : Position) (kind : ValueKind) → value_fault_at position kind ≡ None → not (is_condition kind) ≡ true
 value-of position (values.Number whole) n = refl
 value-of position values.Text n = refl
+value-of position values.Edited n = refl
 value-of position values.Group n = refl
 value-of position values.Figure n = refl
 value-of position values.Condition n = absurd cc
@@ -75,6 +87,7 @@ value-of position values.Unknown n = refl
 pub condition-of : (position : Position) (kind : ValueKind) → condition_fault_at position kind ≡ None → is_there kind ≡ true → is_condition kind ≡ true
 condition-of position (values.Number whole) n t = absurd cc
 condition-of position values.Text n t = absurd cc
+condition-of position values.Edited n t = absurd cc
 condition-of position values.Group n t = absurd cc
 condition-of position values.Figure n t = absurd cc
 condition-of position values.Condition n t = refl
@@ -83,12 +96,14 @@ condition-of position values.Unknown n t = absurd (both_ways false refl t)
 kind-there : (kind : ItemKind) → is_there (item_kind kind) ≡ true
 kind-there (items.Number whole) = refl
 kind-there items.Text = refl
+kind-there items.Edited = refl
 kind-there items.Group = refl
 kind-there items.Condition = refl
 
 window-there : (kind : ItemKind) → is_there (windowed (item_kind kind)) ≡ true
 window-there (items.Number whole) = refl
 window-there items.Text = refl
+window-there items.Edited = refl
 window-there items.Group = refl
 window-there items.Condition = refl
 

@@ -6,6 +6,8 @@ use Rattle.cob_tree.specs.declared.entry.Span.{Span}
 use Rattle.cob_tree.specs.declared.picture.Picture.{Picture}
 use Rattle.cob_tree.specs.declared.picture.Sign.{Sign}
 use Rattle.cob_tree.specs.declared.picture.Sign.TheVariants.{Within, SeparateLeading, SeparateTrailing}
+use Rattle.cob_tree.specs.declared.picture.Usage.{Usage}
+use Rattle.cob_tree.specs.declared.picture.Usage.TheVariants.{Display, Binary, Packed}
 use Rattle.cob_tree.specs.declared.place.Operand.{Operand}
 use Rattle.cob_tree.specs.declared.program.Program.{Program}
 use Rattle.cobol_lex.specs.declared.token.TokenKind.{TokenKind}
@@ -26,9 +28,9 @@ use Rattle.round_trip.proofs.spelled_forms_lemmas.Tokens.{same_word, key, valued
 use Rattle.unparser.specs.Token.{Tokens}
 use Rattle.unparser.specs.Place.{item_name, operand_tokens}
 use Rattle.cobol_print.specs.units.Picture.{picture_text}
-use Rattle.cobol_print.specs.units.Entry.{redefines_tokens, picture_tokens, sign_tokens, occurs_tokens, value_tokens, ranges_tokens, clauses_tokens}
+use Rattle.cobol_print.specs.units.Entry.{redefines_tokens, picture_tokens, usage_tokens, sign_tokens, occurs_tokens, value_tokens, ranges_tokens, clauses_tokens}
 use Rattle.round_trip.specs.spelling.data_spelling.Printable.{IsLiteral, IfAny, AreLiteralSpans, IsDataWord, IsPeriod, IsPrintableEntry}
-use Rattle.round_trip.specs.spelling.data_spelling.Drafts.{IsRedefines, IsPicture, IsSign, IsSpans, alone, IsOccurs, IsValue, IsRanges, Behind, AreClauses}
+use Rattle.round_trip.specs.spelling.data_spelling.Drafts.{IsRedefines, IsPicture, IsUsage, IsSign, IsSpans, alone, IsOccurs, IsValue, IsRanges, Behind, AreClauses}
 use Rattle.round_trip.proofs.spelling_lemmas.data_spelling_lemmas.Literals.{values}
 
 -- ---- what stands behind a clause
@@ -47,6 +49,14 @@ period-ends = record { no_character = refl; no_times = refl; no_thru = refl; no_
 picture-ends : EndsClause (Some (kinds.Word (codes "PIC")))
 unfolding constants.begins_literal constants.figure_of_word
 picture-ends = record { no_character = refl; no_times = refl; no_thru = refl; no_literal = refl }
+
+binary-ends : EndsClause (Some (kinds.Word (codes "BINARY")))
+unfolding constants.begins_literal constants.figure_of_word
+binary-ends = record { no_character = refl; no_times = refl; no_thru = refl; no_literal = refl }
+
+packed-ends : EndsClause (Some (kinds.Word (codes "PACKED-DECIMAL")))
+unfolding constants.begins_literal constants.figure_of_word
+packed-ends = record { no_character = refl; no_times = refl; no_thru = refl; no_literal = refl }
 
 sign-ends : EndsClause (Some (kinds.Word (codes "SIGN")))
 unfolding constants.begins_literal constants.figure_of_word
@@ -93,6 +103,26 @@ picture the =
     onward (there_next (is_key (codes "PIC")) _ (λ o b. same_word (codes "PIC")) (key (codes "PIC")))
     (λ at _. behind_first (absent (codes "IS")) (λ o b. refl)
     (λ _ _. ending (valued part.picture_of (picture_text the) refl) (λ found h. pure (at, found.1, ap (λ t. clauses.Picture at t found.1 ∷ []) h.0))))
+
+binary : {n : ℕ} → Spelled forms.usage n (usage_tokens Binary) Any (λ found. found.0 ≡ Binary)
+unfolding forms.usage forms.binary
+binary =
+    there_next forms.is_binary _ (λ o b. refl)
+    (ending (there_next (is_key (codes "BINARY")) _ (λ o b. same_word (codes "BINARY")) (key (codes "BINARY"))) (λ at _. pure refl))
+
+packed : {n : ℕ} → Spelled forms.usage n (usage_tokens Packed) Any (λ found. found.0 ≡ Packed)
+unfolding forms.usage forms.packed
+packed =
+    other_next forms.is_binary _ (λ o b. refl) (there_next forms.is_packed _ (λ o b. refl)
+    (ending (there_next (is_key (codes "PACKED-DECIMAL")) _ (λ o b. same_word (codes "PACKED-DECIMAL")) (key (codes "PACKED-DECIMAL"))) (λ at _. pure refl)))
+
+usage_binary : {n : ℕ} → Spelled forms.usage_clause n (usage_tokens Binary) Any (λ clause. IsUsage Binary (clause ∷ []))
+unfolding forms.usage_clause forms.usage_alone
+usage_binary = other_next (is_key (codes "USAGE")) _ (λ o b. refl) (ending binary (λ found h. pure (found.1, ap (λ usage. clauses.Usage found.1 usage ∷ []) h)))
+
+usage_packed : {n : ℕ} → Spelled forms.usage_clause n (usage_tokens Packed) Any (λ clause. IsUsage Packed (clause ∷ []))
+unfolding forms.usage_clause forms.usage_alone
+usage_packed = other_next (is_key (codes "USAGE")) _ (λ o b. refl) (ending packed (λ found h. pure (found.1, ap (λ usage. clauses.Usage found.1 usage ∷ []) h)))
 
 abbrev NoCharacter : Option TokenKind → Type 0
 NoCharacter behind = begins_by (is_key (codes "CHARACTER")) behind ≡ false
@@ -146,6 +176,18 @@ a-redefines program number free n = there_next (is_key (codes "REDEFINES")) _ (�
 a-picture : (program : Program) (the : Picture) → Spells (picture_tokens (Some the)) (IsPicture (Some the))
 unfolding forms.clause
 a-picture program the n = other_next (is_key (codes "REDEFINES")) _ (λ o b. refl) (there_next forms.is_pic _ (λ o b. refl) (where_behind (λ o b. tt) (picture the)))
+
+a-binary : (program : Program) → Spells (usage_tokens Binary) (IsUsage Binary)
+unfolding forms.clause forms.stored_clause
+a-binary program n =
+    other_next (is_key (codes "REDEFINES")) _ (λ o b. refl) (other_next forms.is_pic _ (λ o b. refl)
+    (there_next forms.is_usage _ (λ o b. refl) (where_behind (λ o b. tt) usage_binary)))
+
+a-packed : (program : Program) → Spells (usage_tokens Packed) (IsUsage Packed)
+unfolding forms.clause forms.stored_clause
+a-packed program n =
+    other_next (is_key (codes "REDEFINES")) _ (λ o b. refl) (other_next forms.is_pic _ (λ o b. refl)
+    (there_next forms.is_usage _ (λ o b. refl) (where_behind (λ o b. tt) usage_packed)))
 
 a-leading : (program : Program) → Spells (sign_tokens SeparateLeading) (IsSign SeparateLeading)
 unfolding forms.clause forms.stored_clause
@@ -215,8 +257,10 @@ ended : (Is : List Clause → Type 0) → Is [] → Spell [] Is
 unfolding forms.begins_clause
 ended Is h front n = no_turn forms.begins_clause (form.added forms.clause) (λ o b. ap (begins_by forms.begins_clause) b) ([], h, sym (append-nil front))
 
-six-parts : (a b c d e f : Tokens) → a ++ b ++ c ++ d ++ e ++ f ≡ a ++ (b ++ (c ++ (d ++ (e ++ f))))
-six-parts a b c d e f = append_assoc (a ++ b ++ c ++ d) e f ∙ append_assoc (a ++ b ++ c) d (e ++ f) ∙ append_assoc (a ++ b) c (d ++ (e ++ f)) ∙ append_assoc a b (c ++ (d ++ (e ++ f)))
+seven-parts : (a b c d e f g : Tokens) → a ++ b ++ c ++ d ++ e ++ f ++ g ≡ a ++ (b ++ (c ++ (d ++ (e ++ (f ++ g)))))
+seven-parts a b c d e f g =
+    append_assoc (a ++ b ++ c ++ d ++ e) f g ∙ append_assoc (a ++ b ++ c ++ d) e (f ++ g) ∙ append_assoc (a ++ b ++ c) d (e ++ (f ++ g))
+    ∙ append_assoc (a ++ b) c (d ++ (e ++ (f ++ g))) ∙ append_assoc a b (c ++ (d ++ (e ++ (f ++ g))))
 
 module _ (program : Program) where
   begins-redefines : (number : ℕ) (o : Option TokenKind) → begins_by forms.begins_clause (first_of (redefines_tokens program (Some number)) o) ≡ true
@@ -226,6 +270,14 @@ module _ (program : Program) where
   begins-picture : (the : Picture) (o : Option TokenKind) → begins_by forms.begins_clause (first_of (picture_tokens (Some the)) o) ≡ true
   unfolding forms.begins_clause
   begins-picture the o = refl
+
+  begins-binary : begins_by forms.begins_clause (Some (kinds.Word (codes "BINARY"))) ≡ true
+  unfolding forms.begins_clause
+  begins-binary = refl
+
+  begins-packed : begins_by forms.begins_clause (Some (kinds.Word (codes "PACKED-DECIMAL"))) ≡ true
+  unfolding forms.begins_clause
+  begins-packed = refl
 
   begins-sign : begins_by forms.begins_clause (Some (kinds.Word (codes "SIGN"))) ≡ true
   unfolding forms.begins_clause
@@ -272,31 +324,58 @@ module _ (program : Program) where
   signs-end SeparateLeading count value ranges o b = sign-ends
   signs-end SeparateTrailing count value ranges o b = sign-ends
 
-  picture_spell : (picture : Option Picture) (entry : Entry) → IfAny IsLiteral entry.value → AreLiteralSpans entry.ranges →
-      Spell (picture_tokens picture ++ (sign_tokens entry.sign ++ (occurs_tokens entry.occurs ++ (value_tokens program entry.value ++ ranges_tokens program entry.ranges))))
-      (Behind (IsPicture picture) (Behind (IsSign entry.sign) (Behind (IsOccurs entry.occurs) (Behind (IsValue entry.value) (IsRanges entry.ranges)))))
-  picture_spell None entry h k = none (sign_tokens entry.sign ++ (occurs_tokens entry.occurs ++ (value_tokens program entry.value ++ ranges_tokens program entry.ranges))) (IsPicture None) (Behind (IsSign entry.sign) (Behind (IsOccurs entry.occurs) (Behind (IsValue entry.value) (IsRanges entry.ranges)))) refl (sign_spell entry.sign entry.occurs entry.value entry.ranges h k)
-  picture_spell (Some the) entry h k =
-      one (picture_tokens (Some the)) (sign_tokens entry.sign ++ (occurs_tokens entry.occurs ++ (value_tokens program entry.value ++ ranges_tokens program entry.ranges))) (IsPicture (Some the)) (Behind (IsSign entry.sign) (Behind (IsOccurs entry.occurs) (Behind (IsValue entry.value) (IsRanges entry.ranges)))) (begins-picture the) (a-picture program the) (signs-end entry.sign entry.occurs entry.value entry.ranges)
+  -- ---- what comes behind the usage, the picture and what is redefined
+
+  abbrev signed_tokens : Entry → Tokens
+  signed_tokens entry = sign_tokens entry.sign ++ (occurs_tokens entry.occurs ++ (value_tokens program entry.value ++ ranges_tokens program entry.ranges))
+
+  abbrev AreSigned : Entry → List Clause → Type 0
+  AreSigned entry = Behind (IsSign entry.sign) (Behind (IsOccurs entry.occurs) (Behind (IsValue entry.value) (IsRanges entry.ranges)))
+
+  abbrev used_tokens : Usage → Entry → Tokens
+  used_tokens usage entry = usage_tokens usage ++ signed_tokens entry
+
+  abbrev AreUsed : Usage → Entry → List Clause → Type 0
+  AreUsed usage entry = Behind (IsUsage usage) (AreSigned entry)
+
+  usage_spell : (usage : Usage) (entry : Entry) → IfAny IsLiteral entry.value → AreLiteralSpans entry.ranges → Spell (used_tokens usage entry) (AreUsed usage entry)
+  usage_spell Display entry h k = none (signed_tokens entry) (IsUsage Display) (AreSigned entry) refl (sign_spell entry.sign entry.occurs entry.value entry.ranges h k)
+  usage_spell Binary entry h k =
+      one (usage_tokens Binary) (signed_tokens entry) (IsUsage Binary) (AreSigned entry) (λ o. begins-binary) (a-binary program) (signs-end entry.sign entry.occurs entry.value entry.ranges)
+      (sign_spell entry.sign entry.occurs entry.value entry.ranges h k)
+  usage_spell Packed entry h k =
+      one (usage_tokens Packed) (signed_tokens entry) (IsUsage Packed) (AreSigned entry) (λ o. begins-packed) (a-packed program) (signs-end entry.sign entry.occurs entry.value entry.ranges)
       (sign_spell entry.sign entry.occurs entry.value entry.ranges h k)
 
-  pictures-end : (picture : Option Picture) (entry : Entry) (o : Option TokenKind) → IsPeriod o →
-      EndsClause (first_of (picture_tokens picture ++ (sign_tokens entry.sign ++ (occurs_tokens entry.occurs ++ (value_tokens program entry.value ++ ranges_tokens program entry.ranges)))) o)
-  pictures-end None entry o b = signs-end entry.sign entry.occurs entry.value entry.ranges o b
+  usages-end : (usage : Usage) (entry : Entry) (o : Option TokenKind) → IsPeriod o → EndsClause (first_of (used_tokens usage entry) o)
+  usages-end Display entry o b = signs-end entry.sign entry.occurs entry.value entry.ranges o b
+  usages-end Binary entry o b = binary-ends
+  usages-end Packed entry o b = packed-ends
+
+  picture_spell : (picture : Option Picture) (entry : Entry) → IfAny IsLiteral entry.value → AreLiteralSpans entry.ranges →
+      Spell (picture_tokens picture ++ used_tokens entry.usage entry) (Behind (IsPicture picture) (AreUsed entry.usage entry))
+  picture_spell None entry h k = none (used_tokens entry.usage entry) (IsPicture None) (AreUsed entry.usage entry) refl (usage_spell entry.usage entry h k)
+  picture_spell (Some the) entry h k =
+      one (picture_tokens (Some the)) (used_tokens entry.usage entry) (IsPicture (Some the)) (AreUsed entry.usage entry) (begins-picture the) (a-picture program the) (usages-end entry.usage entry)
+      (usage_spell entry.usage entry h k)
+
+  pictures-end : (picture : Option Picture) (entry : Entry) (o : Option TokenKind) → IsPeriod o → EndsClause (first_of (picture_tokens picture ++ used_tokens entry.usage entry) o)
+  pictures-end None entry o b = usages-end entry.usage entry o b
   pictures-end (Some the) entry o b = picture-ends
 
+  abbrev AreShown : Entry → List Clause → Type 0
+  AreShown entry = Behind (IsPicture entry.picture) (AreUsed entry.usage entry)
+
   all_spell : (redefined : Option ℕ) (entry : Entry) → IfAny (λ number. IsDataWord (item_name program number)) redefined → IfAny IsLiteral entry.value → AreLiteralSpans entry.ranges →
-      Spell (redefines_tokens program redefined
-      ++ (picture_tokens entry.picture ++ (sign_tokens entry.sign ++ (occurs_tokens entry.occurs ++ (value_tokens program entry.value ++ ranges_tokens program entry.ranges)))))
-      (Behind (IsRedefines program redefined) (Behind (IsPicture entry.picture) (Behind (IsSign entry.sign) (Behind (IsOccurs entry.occurs) (Behind (IsValue entry.value) (IsRanges entry.ranges))))))
-  all_spell None entry r h k = none (picture_tokens entry.picture ++ (sign_tokens entry.sign ++ (occurs_tokens entry.occurs ++ (value_tokens program entry.value ++ ranges_tokens program entry.ranges)))) (IsRedefines program None) (Behind (IsPicture entry.picture) (Behind (IsSign entry.sign) (Behind (IsOccurs entry.occurs) (Behind (IsValue entry.value) (IsRanges entry.ranges))))) refl (picture_spell entry.picture entry h k)
+      Spell (redefines_tokens program redefined ++ (picture_tokens entry.picture ++ used_tokens entry.usage entry)) (Behind (IsRedefines program redefined) (AreShown entry))
+  all_spell None entry r h k = none (picture_tokens entry.picture ++ used_tokens entry.usage entry) (IsRedefines program None) (AreShown entry) refl (picture_spell entry.picture entry h k)
   all_spell (Some number) entry r h k =
-      one (redefines_tokens program (Some number)) (picture_tokens entry.picture ++ (sign_tokens entry.sign ++ (occurs_tokens entry.occurs ++ (value_tokens program entry.value ++ ranges_tokens program entry.ranges)))) (IsRedefines program (Some number)) (Behind (IsPicture entry.picture) (Behind (IsSign entry.sign) (Behind (IsOccurs entry.occurs) (Behind (IsValue entry.value) (IsRanges entry.ranges))))) (begins-redefines number) (a-redefines program number r)
+      one (redefines_tokens program (Some number)) (picture_tokens entry.picture ++ used_tokens entry.usage entry) (IsRedefines program (Some number)) (AreShown entry) (begins-redefines number) (a-redefines program number r)
       (pictures-end entry.picture entry) (picture_spell entry.picture entry h k)
 
   pub entry_clauses : {n : ℕ} (entry : Entry) → IsPrintableEntry program entry → Spelled entries.entry_clauses n (clauses_tokens program entry) IsPeriod (AreClauses program entry)
   unfolding entries.entry_clauses
   entry_clauses {n = n} entry h =
       subst (λ list. Spelled entries.entry_clauses n list IsPeriod (AreClauses program entry))
-      (sym (six-parts (redefines_tokens program entry.redefines) (picture_tokens entry.picture) (sign_tokens entry.sign) (occurs_tokens entry.occurs) (value_tokens program entry.value) (ranges_tokens program entry.ranges)))
+      (sym (seven-parts (redefines_tokens program entry.redefines) (picture_tokens entry.picture) (usage_tokens entry.usage) (sign_tokens entry.sign) (occurs_tokens entry.occurs) (value_tokens program entry.value) (ranges_tokens program entry.ranges)))
       (hence (λ list k. subst (AreClauses program entry) (sym k.2) k.1) (all_spell entry.redefines entry h.redefined h.valued h.ranged [] n))

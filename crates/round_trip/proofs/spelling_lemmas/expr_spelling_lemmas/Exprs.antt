@@ -27,14 +27,14 @@ use Rattle.cobol_grammar.specs.declared.expr_forms.side.ValueKind.{ValueKind}
 use Rattle.cobol_grammar.specs.declared.expr_forms.side.ValueKind.TheVariants as values
 use Rattle.cobol_grammar.specs.expr_forms.Chain.{chain_of, finish, joined}
 use Rattle.cobol_grammar.specs.expr_forms.Expression as expressions
-use Rattle.cobol_grammar.specs.expr_forms.Fault.{is_whole, number_fault, number_fault_at, whole_fault, whole_fault_at}
+use Rattle.cobol_grammar.specs.expr_forms.Fault.{is_whole, number_fault, number_fault_at, result_fault, result_fault_at, whole_fault, whole_fault_at}
 use Rattle.cobol_grammar.specs.expr_forms.Limit.{Inner}
 use Rattle.cobol_grammar.specs.expr_forms.Side.{expr_of, sum_side, negated}
 use Rattle.cobol_grammar.specs.expr_forms.Token.{begins_turn, op_of}
 use Rattle.round_trip.specs.spelled_forms.Spelling.{first_of, Any, Spelled}
 use Rattle.round_trip.proofs.spelled_forms_lemmas.Makers.{pure, note, hence, where_behind, bind, then, ending, behind_none, there_next, other_next, one, no_turn, last_turn}
 use Rattle.round_trip.proofs.spelled_forms_lemmas.Tokens.{sign}
-use Rattle.round_trip.specs.spelling.expr_spelling.Printable.{Judged, is_number, is_counting, judged_expr, IsPrintableExpr, IsPrintableOperand}
+use Rattle.round_trip.specs.spelling.expr_spelling.Printable.{Judged, is_number, takes_result, is_counting, judged_expr, IsPrintableExpr, IsPrintableOperand}
 use Rattle.round_trip.specs.spelling.expr_spelling.Printable as judging
 use Rattle.round_trip.specs.spelling.expr_spelling.Spelled.{Ends, continues_place, continues_expr, what_of, IsKnownAs, IsOperandSide, IsExprSide, size_terms, OperandHasRoom}
 use Rattle.round_trip.proofs.spelling_lemmas.expr_spelling_lemmas.Layers.{expr-cases, operand-cases, tokens-Leaf, tokens-Minus, tokens-Both, judged-Leaf, judged-Minus, judged-Both, terms-Leaf, terms-Minus, terms-Both, terms-Place, terms-place, terms-window, window_count}
@@ -50,6 +50,15 @@ number-none position kind e = absurd (both_ways false refl e)
 pub number-free : (judged : Judged) (side : Side) → IsKnownAs judged side → is_number judged.kind ≡ true → number_fault side ≡ None
 unfolding number_fault
 number-free judged side known e = number-none side.leaf side.kind (subst (λ k. is_number k ≡ true) (sym known.kind) e)
+
+result-none : (position : Position) (kind : ValueKind) → takes_result kind ≡ true → result_fault_at position kind ≡ None
+result-none position values.Edited e = refl
+result-none position (values.Number whole) e = refl
+result-none position kind e = absurd (both_ways false refl e)
+
+pub result-free : (judged : Judged) (side : Side) → IsKnownAs judged side → takes_result judged.kind ≡ true → result_fault side ≡ None
+unfolding result_fault
+result-free judged side known e = result-none side.leaf side.kind (subst (λ k. takes_result k ≡ true) (sym known.kind) e)
 
 pub whole-none : (position : Position) (kind : ValueKind) → is_counting kind ≡ true → whole_fault_at position kind ≡ None
 unfolding whole_fault_at

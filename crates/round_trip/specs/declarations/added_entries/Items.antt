@@ -7,6 +7,7 @@ use Rattle.cob_tree.specs.declared.entry.Entry.{Entry}
 use Rattle.cob_tree.specs.declared.number.Number.{Number}
 use Rattle.cob_tree.specs.declared.picture.Picture.TheVariants as pictures
 use Rattle.cob_tree.specs.declared.picture.Sign.TheVariants.{Within}
+use Rattle.cob_tree.specs.declared.picture.Usage.TheVariants.{Display}
 use Rattle.cob_tree.specs.declared.place.Operand.TheVariants as operands
 use Rattle.cob_tree.specs.declared.program.Program.{Program}
 use Rattle.control_flow_theory.specs.language.All.{all}
@@ -32,6 +33,7 @@ whole_entry item = record {
   redefines = None;
   picture = Some (pictures.Number item.signed item.digits 0);
   sign = Within;
+  usage = Display;
   occurs = None;
   value = Some (operands.Number zero_literal);
   ranges = [];

@@ -5,6 +5,8 @@ use Rattle.cob_tree.specs.declared.entry.Span.{Span}
 use Rattle.cob_tree.specs.declared.picture.Picture.{Picture}
 use Rattle.cob_tree.specs.declared.picture.Sign.{Sign}
 use Rattle.cob_tree.specs.declared.picture.Sign.TheVariants.{Within}
+use Rattle.cob_tree.specs.declared.picture.Usage.{Usage}
+use Rattle.cob_tree.specs.declared.picture.Usage.TheVariants.{Display, Binary, Packed}
 use Rattle.cob_tree.specs.declared.place.Operand.{Operand}
 use Rattle.cob_tree.specs.declared.program.Program.{Program}
 use Rattle.symbol_tables.specs.data_names.Names.{is_group}
@@ -16,11 +18,14 @@ use Rattle.declaration_checks.specs.Redefining.{redefined, is_short}
 use Rattle.declaration_checks.specs.Rule.{target_of}
 use Rattle.declaration_checks.specs.Standing.{before, behind, holder_of, standing_of}
 use Rattle.declaration_checks.specs.Value.{may_have_value}
+use Rattle.declaration_checks.specs.Usage.{usages_of}
+use Rattle.grammar_laws.specs.whole_counts.entry_bounds.Bounds.{usage_suits}
 use Rattle.round_trip.specs.declarations.printed_pictures.Writable.{IsWritable}
 use Rattle.unparser.specs.Place.{item_name}
 use Rattle.round_trip.specs.spelling.data_spelling.Printable.{IfAny}
 
--- ---- entries by themselves, where 0 stands for each item that is redefined
+-- ---- entries by themselves, where 0 stands for each item that is redefined, and DISPLAY for each
+-- ---- usage
 
 -- 0 where something is redefined
 abbrev pub marked : Option ℕ → Option ℕ
@@ -36,6 +41,7 @@ base entry = record {
   redefines = marked entry.redefines;
   picture = entry.picture;
   sign = entry.sign;
+  usage = Display;
   occurs = entry.occurs;
   value = entry.value;
   ranges = entry.ranges;
@@ -44,6 +50,20 @@ base entry = record {
 -- the entries of a program by themselves
 abbrev pub bases : Program → List Entry
 bases program = map base program.entries
+
+-- the usage that is said, where one is: DISPLAY isn't
+abbrev pub said : Usage → Option Usage
+said Display = None
+said Binary = Some Binary
+said Packed = Some Packed
+
+-- the usages that the entries of a program say
+abbrev pub owns : Program → List (Option Usage)
+owns program = map (λ (entry : Entry). said entry.usage) program.entries
+
+-- their usages, as groups hand them down
+abbrev pub usages : Program → List (Option Usage)
+usages program = usages_of (bases program) (owns program)
 
 -- how many bytes each entry of a program has
 abbrev pub sizes : Program → List ℕ
@@ -83,6 +103,8 @@ pub record ItemKeeps (program : Program) (at : ℕ) (entry : Entry) : Type 0 whe
   pub pictured : PictureSuits (is_group (base entry) (behind (bases program) at)) entry.picture
   -- its sign suits its picture
   pub signed : SignSuits entry.sign entry.picture
+  -- a usage other than DISPLAY is on a number whose sign is within it
+  pub used : usage_suits entry.usage entry.sign entry.picture ≡ true
   -- it may occur so often
   pub repeated : IfAny
       (Repeats entry.level (standing_of (base entry) (before (bases program) at)).dims)
@@ -130,6 +152,7 @@ pub record ConditionKeeps (program : Program) (at : ℕ) (entry : Entry) : Type 
   pub no_redefines : entry.redefines ≡ None
   pub no_picture : entry.picture ≡ None
   pub no_sign : entry.sign ≡ Within
+  pub no_usage : entry.usage ≡ Display
   pub no_occurs : entry.occurs ≡ None
   pub no_value : entry.value ≡ None
   -- it has a value

@@ -17,9 +17,10 @@ number_may_move make whole kinds.Text = whole
 number_may_move make whole kinds.Group = may_fill make whole
 number_may_move make whole to = true
 
--- a value may be moved to such a kind: no figurative constant but ZERO, which is a number, goes to
--- a number
+-- a value may be moved to such a kind: to a number goes no edited item, and no figurative constant
+-- but ZERO, which is a number
 abbrev pub may_move : ExprContent → (from to : ValueKind) → Bool
 may_move make (kinds.Number whole) to = number_may_move make whole to
+may_move make kinds.Edited to = not (is_number to)
 may_move make kinds.Figure to = not (is_number to)
 may_move make from to = true

@@ -21,7 +21,7 @@ use Rattle.cobol_grammar.specs.declared.expr_forms.side.ValueKind.{ValueKind}
 use Rattle.cobol_grammar.specs.expr_forms.Fault.{compared_as, is_condition, kind_of}
 use Rattle.cobol_grammar.specs.Name.{is_record}
 use Rattle.cobol_grammar.specs.Use.{record_kind}
-use Rattle.round_trip.specs.spelling.expr_spelling.Printable.{Judged, is_counting, is_number, judged_expr, judged_operand, judged_place, reference}
+use Rattle.round_trip.specs.spelling.expr_spelling.Printable.{Judged, is_counting, is_number, takes_result, judged_expr, judged_operand, judged_place, reference}
 use Rattle.round_trip.specs.spelling.cond_spelling.Printable.{cond_fit, kinds_suit}
 use Rattle.round_trip.specs.fitting_statements.Fits.{Fits}
 use Rattle.round_trip.specs.fitting_statements.own_fits.Move.{may_move}
@@ -143,7 +143,7 @@ module _ (program : Program) where
     turns = operand_fits is_counting;
     receives = place_fits has_value;
     number_place = place_fits is_number;
-    result_place = place_fits is_number;
+    result_place = place_fits takes_result;
     whole_place = place_fits is_counting;
     condition_place = place_fits is_condition;
     moves = moves;

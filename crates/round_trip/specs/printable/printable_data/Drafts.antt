@@ -1,4 +1,4 @@
--- Drafts whose names, values and status items can be printed.
+-- Drafts whose names, pictures, values and status items can be printed.
 use Rattle.std.specs.Prelude.{◌≡◌, Bool, true, ◌&&◌, List, map}
 use Rattle.cobol_grammar.specs.declared.data_forms.draft.Clause.{Clause}
 use Rattle.cobol_grammar.specs.declared.data_forms.draft.Clause.TheVariants as clauses
@@ -12,7 +12,7 @@ use Rattle.cobol_grammar.specs.declared.data_forms.draft.StatusDraft.{StatusDraf
 use Rattle.cobol_grammar.specs.declared.data_forms.draft.ThruDraft.{ThruDraft}
 use Rattle.control_flow_theory.specs.language.All.{all}
 use Rattle.program_facts.specs.well_scoped.Part.{if_any}
-use Rattle.round_trip.specs.printable.printable_tokens.Printable.{is_printable_text}
+use Rattle.round_trip.specs.printable.printable_tokens.Printable.{is_printable_text, begins_well}
 use Rattle.round_trip.specs.printable.Part.{is_printable_name, is_printable_place, is_printable_operand}
 
 -- ---- entries
@@ -25,12 +25,13 @@ thru_printable thru = is_printable_operand thru.to
 abbrev pub span_printable : SpanDraft → Bool
 span_printable span = is_printable_operand span.from && if_any thru_printable span.thru
 
--- the values of a clause
+-- the picture or the values of a clause
 abbrev pub clause_printable : Clause → Bool
 clause_printable (clauses.Value at spans) = all (map span_printable spans)
+clause_printable (clauses.Picture at text text_at) = begins_well text
 clause_printable _ = true
 
--- the name and the values of an entry
+-- the name, the picture and the values of an entry
 abbrev pub entry_printable : EntryDraft → Bool
 entry_printable entry =
     if_any is_printable_name entry.name && all (map clause_printable entry.clauses)

@@ -6,6 +6,8 @@ use Rattle.cob_tree.specs.declared.file.FileEntry.{FileEntry}
 use Rattle.cob_tree.specs.declared.picture.Picture.{Picture}
 use Rattle.cob_tree.specs.declared.picture.Sign.{Sign}
 use Rattle.cob_tree.specs.declared.picture.Sign.TheVariants.{Within, SeparateLeading, SeparateTrailing}
+use Rattle.cob_tree.specs.declared.picture.Usage.{Usage}
+use Rattle.cob_tree.specs.declared.picture.Usage.TheVariants.{Display, Binary, Packed}
 use Rattle.cob_tree.specs.declared.place.Operand.{Operand}
 use Rattle.cob_tree.specs.declared.place.Place.{Place}
 use Rattle.cob_tree.specs.declared.program.Program.{Program}
@@ -38,6 +40,12 @@ IsPicture None list = list ≡ []
 IsPicture (Some picture) list =
     (at : Position) × (text_at : Position)
     × (list ≡ clauses.Picture at (picture_text picture) text_at ∷ [])
+
+-- the USAGE clause; DISPLAY has none
+abbrev pub IsUsage : Usage → List Clause → Type 0
+IsUsage Display list = list ≡ []
+IsUsage Binary list = (at : Position) × (list ≡ clauses.Usage at Binary ∷ [])
+IsUsage Packed list = (at : Position) × (list ≡ clauses.Usage at Packed ∷ [])
 
 -- the SIGN clause; a sign within the last digit has none
 abbrev pub IsSign : Sign → List Clause → Type 0
@@ -82,8 +90,8 @@ Behind Front Back list =
 abbrev pub AreClauses : Program → Entry → List Clause → Type 0
 AreClauses program entry =
     Behind (IsRedefines program entry.redefines) (Behind (IsPicture entry.picture)
-    (Behind (IsSign entry.sign) (Behind (IsOccurs entry.occurs)
-    (Behind (IsValue entry.value) (IsRanges entry.ranges)))))
+    (Behind (IsUsage entry.usage) (Behind (IsSign entry.sign) (Behind (IsOccurs entry.occurs)
+    (Behind (IsValue entry.value) (IsRanges entry.ranges))))))
 
 -- the draft says what the entry is
 pub record IsDraft (program : Program) (entry : Entry) (draft : EntryDraft) : Type 0 where

@@ -41,6 +41,11 @@ abbrev pub is_number : ValueKind → Bool
 is_number (kinds.Number whole) = true
 is_number _ = false
 
+-- it takes a result: it is a number, or an edited item
+abbrev pub takes_result : ValueKind → Bool
+takes_result kinds.Edited = true
+takes_result kind = is_number kind
+
 -- the kind is a number without decimals
 abbrev pub is_counting : ValueKind → Bool
 is_counting (kinds.Number whole) = whole

@@ -17,9 +17,9 @@ pub returns-in_ok-status-in-Ok-clause-does : goal.returns-in_ok-status-in-Ok-cla
 returns-in_ok-status-in-Ok-clause-does g c = λ world over.
     let declared = declared_with c.args.program.now c.args.areas.now in
     let puts = rw c.in-Ok.is at c.in_ok-abend.ensures.does in
-    put_did declared c.args.program.now.files Rewrite (rewritten_at world) c.args.entry (from_by declared c.args.entry c.args.store.now (option_copied c.args.from)) c.put_out.new.store c.settled.new.store c.put_out.new.scratch.items c.in-Ok.item c.in_ok-status-in-Ok.status c.settled.result world (take c.rewrite.new.bench.left (map (seen-value g.dyn-1).it c.rewrite.new.bench.devices.items)) c.rewrite.new.table.rows
+    put_did declared c.args.program.now.files Rewrite (rewritten_at world) c.args.writing.entry (from_by declared c.args.writing.entry c.args.store.now (option_copied c.args.writing.from)) c.put_out.new.store c.settled.new.store c.put_out.new.scratch.items c.in-Ok.item c.in_ok-status-in-Ok.status c.settled.result world (take c.rewrite.new.bench.left (map (seen-value g.dyn-1).it c.rewrite.new.bench.devices.items)) c.rewrite.new.table.rows
     puts
-    (tried_at (rewritten_at world) c.args.program.now.files c.as_slice-files.result.now (Ok c.in_ok-status-in-Ok.status) (file_of declared c.args.entry) c.file_of-file.result c.put_out.new.scratch.items c.as_slice.result.now
+    (tried_at (rewritten_at world) c.args.program.now.files c.as_slice-files.result.now (Ok c.in_ok-status-in-Ok.status) (file_of declared c.args.writing.entry) c.file_of-file.result c.put_out.new.scratch.items c.as_slice.result.now
     (take c.args.bench.now.left (map (seen-value g.dyn-1).it c.args.bench.now.devices.items)) (take c.rewrite.new.bench.left (map (seen-value g.dyn-1).it c.rewrite.new.bench.devices.items)) c.args.table.now.rows c.rewrite.new.table.rows world c.as_slice-files.ensures c.file_of-file.ensures c.as_slice.ensures.value (c.in_ok-status-in-Ok.ensures.does world) over)
     c.settled.ensures.end c.settled.ensures.store
 
@@ -31,13 +31,13 @@ returns-in_err-abend-clause-bench g c =
 pub returns-in_err-abend-clause-breaks : goal.returns-in_err-abend-clause-breaks
 returns-in_err-abend-clause-breaks g c = λ world over.
     let p = err_from_is_err_and c.from_residual.result c.from_residual.ensures.1 in
-    rw (p.1, p.2) (nothing_done faults.NoMemory c.args.program.now.files world (rewritten (declared_with c.args.program.now c.args.areas.now) c.args.store.now world c.args.entry (option_copied c.args.from)) c.args.bench.now.left _ c.args.table.now.rows (over_left c.args.program.now.files c.args.bench.now.left _ c.args.table.now.rows world over))
+    rw (p.1, p.2) (nothing_done faults.NoMemory c.args.program.now.files world (rewritten (declared_with c.args.program.now c.args.areas.now) c.args.store.now world c.args.writing.entry (option_copied c.args.writing.from)) c.args.bench.now.left _ c.args.table.now.rows (over_left c.args.program.now.files c.args.bench.now.left _ c.args.table.now.rows world over))
 
 pub returns-in_err-status-in-Ok-clause-breaks : goal.returns-in_err-status-in-Ok-clause-breaks
 returns-in_err-status-in-Ok-clause-breaks g c = λ world over.
     let p = err_from_is_err_and c.from_residual-in_err-status-in-Ok.result c.from_residual-in_err-status-in-Ok.ensures.1 in
     let broke = stays_listed {A = ℕ} (Err c.in_err-status-in-Ok.field-0.0) c.as_slice-files.result.now c.args.program.now.files _ c.args.table.now.rows world _ _ _ c.as_slice-files.ensures (c.in_err-status-in-Ok.ensures.breaks world) over in
-    rw (p.1, p.2) (nothing_done c.in_err-status-in-Ok.field-0.0 c.args.program.now.files world (rewritten (declared_with c.args.program.now c.args.areas.now) c.args.store.now world c.args.entry (option_copied c.args.from)) _ _ _ broke)
+    rw (p.1, p.2) (nothing_done c.in_err-status-in-Ok.field-0.0 c.args.program.now.files world (rewritten (declared_with c.args.program.now c.args.areas.now) c.args.store.now world c.args.writing.entry (option_copied c.args.writing.from)) _ _ _ broke)
 
 pub returns-in_err-abend-clause-kept : goal.returns-in_err-abend-clause-kept
 returns-in_err-abend-clause-kept g c =

@@ -1,7 +1,7 @@
 use Rattle.std.proofs.Common.{◌≡◌, ◌+◌, length, Err, sym, ap, ◌∙◌, arith}
 use Rattle.picture_data.specs.Fault.{fault_at}
 use Rattle.picture_data.proofs.ReadingLemmas.{goes_on, stops, ends}
-use Rattle.picture_data.proofs.read_picture.Goals as goal
+use Rattle.picture_data.proofs.reading.plain_picture.Goals as goal
 
 pub returns-in-Err : goal.returns-in-Err
 returns-in-Err c =

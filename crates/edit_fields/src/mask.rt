@@ -1,0 +1,117 @@
+//! A mask, as a program holds it.
+
+ghost use Rattle.std.specs.Prelude.{◌≡◌, ◌≤◌, ◌<◌, ◌^◌, length};
+ghost use Rattle.edit_fields.specs.Mask.{IsHeldMask, held};
+ghost use Rattle.edit_fields.specs.Field as fields;
+ghost use Rattle.edit_fields.specs.Field.{IsNumber};
+ghost use Rattle.edit_fields.specs.Edited.{edited, shown_size};
+
+use crate::fault::MaskFault;
+use crate::field::{Digits, mask_digits};
+use crate::symbols::{Symbols, written_out};
+use crate::{edited, mask_fault};
+use cob_num::Dec;
+use std::fmt;
+use std::marker::Model;
+
+/// A mask in capitals, of at most 160 symbols, its counts written out.
+///
+/// Contracts see a mask as its symbols.
+#[derive(Clone, Copy)]
+pub struct Mask {
+    symbols: Symbols,
+}
+
+impl Model for Mask {
+    ghost use Rattle.std.specs.Prelude.{List, ℕ};
+
+    ghost Value = { List ℕ };
+
+    ghost use Rattle.edit_fields.specs.Mask.{mask_bytes, IsHeld, mask_of, mask_of-mask_bytes};
+
+    ghost view = { mask_bytes };
+
+    ghost invariant = { IsHeld };
+
+    ghost inverse = { mask_of };
+
+    ghost inverse_ok = { mask_of-mask_bytes };
+}
+
+impl Mask {
+    /// The mask of a text, its letters in either case, or why it is none.
+    pub fn new(text: &[u8]) -> Result<Mask, MaskFault>
+        requires { length text.now < 2 ^ 31 }
+        ensures { result ≡ held text.now }
+    {
+        match mask_fault(text) {
+            None => Ok(Mask {
+                symbols: written_out(text),
+            }),
+            Some(fault) => Err(fault),
+        }
+    }
+
+    /// The symbols of the mask.
+    pub fn as_slice(&self) -> &[u8]
+        ensures value { result.now ≡ self.now }
+        ensures mask { IsHeldMask self.now }
+        ensures short { length self.now ≤ 160 }
+    {
+        self.symbols.as_slice()
+    }
+
+    /// How many digits the mask has.
+    pub fn digits(&self) -> Digits
+        ensures digits { result ≡ fields.digits_of self.now }
+        ensures number { IsNumber result.whole result.part }
+    {
+        mask_digits(self.as_slice())
+    }
+
+    /// How many bytes the mask shows.
+    pub fn size(&self) -> u32
+        ensures size { result ≡ shown_size self.now }
+        ensures short { result ≤ 160 }
+    {
+        edited::mask_size(self.as_slice()) as u32
+    }
+
+    /// The bytes that a value shows through the mask.
+    pub fn edit(&self, value: Dec, into: &mut [u8])
+        requires { length into.old ≡ shown_size self.now }
+        ensures { into.new ≡ edited self.now value }
+    {
+        edited::edit(self.as_slice(), value, into)
+    }
+}
+
+impl fmt::Debug for Mask {
+    fn fmt<W: fmt::Write>(&self, f: &mut fmt::Formatter<W>) -> fmt::Result {
+        for byte in self.as_slice() {
+            f.write_char(char::from(*byte))?;
+        }
+        Ok(())
+    }
+}
+
+impl PartialEq for Mask {
+    ghost use Rattle.std.specs.Str.{bytes_eq};
+    ghost use Rattle.std.proofs.Common.{rules};
+    ghost use Rattle.std.specs.Cmp.Rules.{comparing};
+
+    ghost eq = { bytes_eq };
+
+    ghost laws = { Prim.search (comparing, rules) };
+
+    fn eq(&self, other: &Mask) -> bool {
+        self.as_slice() == other.as_slice()
+    }
+}
+
+impl Eq for Mask {
+    ghost use Rattle.std.proofs.Common.{rules};
+    ghost use Rattle.std.specs.Cmp.Rules.{comparing};
+
+    ghost laws = { Prim.search (comparing, rules) };
+}
