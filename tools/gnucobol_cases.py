@@ -177,6 +177,60 @@ def compute():
     return program
 
 
+MASKS = ['ZZ9', 'Z(5)', 'ZZ,ZZ9.99', 'Z(4).ZZ', '$$,$$9.99', '$(6).99CR', '$ZZZ9.9', '+(4)9', '--,--9.99', '-9(4).9',
+         'Z(3)9V99-', '*(4)9.9', '**,***.**', '99/99/99', '9B99B999', 'ZZ9,000', '9(4)V9(2)DB']
+
+
+def edited():
+    program = Program('MOVE-EDITED')
+    for name, picture, value, sign in NUMBERS:
+        program.number(name, picture, value, sign)
+    program.text('T1', 'X(4)', '"0042"')
+    for number, mask in enumerate(MASKS, 1):
+        program.text('E%d' % number, mask)
+    for sender in [name for name, *_ in NUMBERS] + LITERALS + ['ZERO', 'T1']:
+        for number, _ in enumerate(MASKS, 1):
+            program.case(['MOVE %s TO E%d' % (sender, number)], 'E%d' % number)
+    for statement in ['ADD A3 A5 GIVING {e}', 'SUBTRACT 200 FROM A3 GIVING {e} ROUNDED', 'MULTIPLY A3 BY A5 GIVING {e} ROUNDED',
+                      'DIVIDE A3 BY 7 GIVING {e}', 'COMPUTE {e} ROUNDED = A3 / 3 + A6']:
+        for number, _ in enumerate(MASKS, 1):
+            program.case([statement.format(e='E%d' % number)], 'E%d' % number)
+    return program
+
+
+STORED = [('B1', 'S9(4) BINARY'), ('B2', '9(5)V99 COMP'), ('B3', 'S9(12)V9(6) BINARY'), ('P1', 'S9(3) COMP-3'),
+          ('P2', '9(4)V9 PACKED-DECIMAL'), ('P3', 'S9(9)V9(9) COMP-3'), ('P4', 'V9(4) COMP-3')]
+# where GnuCOBOL cuts 18 digits to a binary item otherwise, and gives a zero the sign of what was cut
+STORED_OTHERWISE = {('A10', 'B2'), ('A10', 'B3'), ('-0.05', 'P1')}
+
+
+def usages():
+    """Numbers to binary and packed items and on, sums of these, and comparisons."""
+    program = Program('USAGES')
+    for name, picture, value, sign in NUMBERS:
+        program.number(name, picture, value, sign)
+    for name, picture in STORED:
+        program.text(name, picture, '0')
+    program.number('D1', 'S9(9)V9(9)', '0', 'LEADING SEPARATE')
+    program.text('SIZE-X', 'X')
+    for sender in [name for name, *_ in NUMBERS] + LITERALS + ['ZERO']:
+        for name, _ in STORED:
+            if (sender, name) in STORED_OTHERWISE:
+                continue
+            program.case(['MOVE %s TO %s' % (sender, name), 'MOVE %s TO D1' % name], 'D1-X')
+    for statement in ['ADD A3 TO {r}', 'SUBTRACT A5 FROM {r}', 'MULTIPLY -3 BY {r}', 'DIVIDE A1 INTO {r}',
+                      'ADD {r} A4 GIVING {r} ROUNDED', 'COMPUTE {r} ROUNDED = {r} * A6 - A8']:
+        for name, _ in STORED:
+            verb = statement.split()[0]
+            program.case(['MOVE 98.7 TO ' + name, statement.format(r=name), '    ON SIZE ERROR MOVE "E" TO SIZE-X',
+                          '    NOT ON SIZE ERROR MOVE "-" TO SIZE-X', 'END-' + verb, 'MOVE %s TO D1' % name], 'D1-X SIZE-X')
+    for left, _ in STORED:
+        for right in ['B1', 'B3', 'P1', 'P3', 'A3', 'A5', '7', '98.7', 'ZERO']:
+            if left != right:
+                program.asked(['%s %s %s' % (left, relation, right) for relation in RELATIONS])
+    return program
+
+
 RELATIONS = ['=', '<', 'NOT >']
 
 
@@ -225,7 +279,7 @@ def main():
         'multiply-divide': sums('MULTIPLY-DIVIDE', ['MULTIPLY {a} BY {r}', 'DIVIDE {a} INTO {r}',
                                                     'MULTIPLY {a} BY 3.14 GIVING {r}', 'DIVIDE {a} BY 3 GIVING {r}'],
                                 SUMS, TOTALS),
-        'compute-sums': compute(), 'compare-numbers': compare_numbers(), 'compare-texts': compare_texts()}
+        'move-edited': edited(), 'usages': usages(), 'compute-sums': compute(), 'compare-numbers': compare_numbers(), 'compare-texts': compare_texts()}
     for name, program in programs.items():
         source = os.path.join(folder, name + '.cob')
         with open(source, 'w') as file:

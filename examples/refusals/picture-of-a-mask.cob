@@ -1,0 +1,8 @@
+       IDENTIFICATION DIVISION.
+       PROGRAM-ID. T.
+       DATA DIVISION.
+       WORKING-STORAGE SECTION.
+       01 C PIC Z9Z.
+       PROCEDURE DIVISION.
+       A.
+           STOP RUN.

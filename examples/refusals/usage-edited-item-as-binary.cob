@@ -1,0 +1,9 @@
+       IDENTIFICATION DIVISION.
+       PROGRAM-ID. T.
+       DATA DIVISION.
+       WORKING-STORAGE SECTION.
+       01 C PIC ZZ9
+           BINARY.
+       PROCEDURE DIVISION.
+       A.
+           STOP RUN.

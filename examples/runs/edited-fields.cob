@@ -1,0 +1,65 @@
+       IDENTIFICATION DIVISION.
+       PROGRAM-ID. EDITED-FIELDS.
+       DATA DIVISION.
+       WORKING-STORAGE SECTION.
+       01 AMOUNT PIC S9(7)V99.
+       01 NO-CENTS PIC Z,ZZZ,ZZ9.
+       01 PRICE PIC z(6)9.99.
+       01 WITHOUT-ZERO PIC ZZZ.ZZ.
+       01 DOLLARS PIC $$,$$$,$$9.99CR.
+       01 DEBIT PIC $Z(6)9.99DB.
+       01 GUARDED PIC $*,***,**9.99-.
+       01 STARS PIC ***.**.
+       01 FLOATED PIC ---,---,--9.9.
+       01 WITH-PLUS PIC +(8)9.
+       01 LEADING-SIGN PIC -$Z(6)9.
+       01 SCALED PIC Z(5)9V99.
+       01 THOUSANDS PIC ZZ9,000.
+       01 SPACED PIC 9B99B99.
+       01 DAY-DATE PIC 99/99/99.
+       01 DAY-NUMBER PIC 9(6) VALUE 71185.
+       01 AS-TEXT PIC X(12).
+       01 NAMED-FIELD PIC Z9.9 VALUE "OFF".
+           88 IS-OFF VALUE "OFF ".
+           88 IS-FULL VALUE "99.9".
+       01 NEVER-SET PIC ZZ9.
+       PROCEDURE DIVISION.
+       MAIN-LINE.
+           MOVE 0 TO AMOUNT.
+           PERFORM SHOW-IT.
+           MOVE 7.05 TO AMOUNT.
+           PERFORM SHOW-IT.
+           MOVE -1234.5 TO AMOUNT.
+           PERFORM SHOW-IT.
+           MOVE 9876543.21 TO AMOUNT.
+           PERFORM SHOW-IT.
+           MOVE DAY-NUMBER TO DAY-DATE.
+           DISPLAY "(" DAY-DATE ") (" NEVER-SET ")".
+      *    ITS LAST 18 BYTES ARE A NUMBER, AND IT IS TEXT ITSELF
+           MOVE "00041" TO NO-CENTS.
+           MOVE NO-CENTS TO AS-TEXT.
+           MOVE AS-TEXT TO NAMED-FIELD (1 : 2).
+           DISPLAY "(" NO-CENTS ") (" AS-TEXT ") (" NAMED-FIELD ")".
+           MOVE "OFF" TO NAMED-FIELD (1 : 4).
+           IF IS-OFF DISPLAY "OFF".
+           MOVE 99.9 TO NAMED-FIELD.
+           IF IS-FULL AND NAMED-FIELD = "99.9" DISPLAY "FULL".
+           MOVE ZERO TO NAMED-FIELD PRICE.
+           DISPLAY "(" NAMED-FIELD ") (" PRICE ")".
+           DIVIDE 20 BY 3 GIVING NAMED-FIELD ROUNDED SPACED ROUNDED.
+           DISPLAY "(" NAMED-FIELD ") (" SPACED ")".
+           COMPUTE NAMED-FIELD = 33.3 * 4
+               ON SIZE ERROR DISPLAY "STAYS " NAMED-FIELD
+           END-COMPUTE.
+           COMPUTE NAMED-FIELD = 33.3 * 4.
+           DISPLAY "CUT " NAMED-FIELD.
+           STOP RUN.
+       SHOW-IT.
+           MOVE AMOUNT TO NO-CENTS PRICE WITHOUT-ZERO DOLLARS DEBIT
+               GUARDED STARS FLOATED WITH-PLUS LEADING-SIGN SCALED
+               THOUSANDS SPACED.
+           DISPLAY "(" NO-CENTS ") (" PRICE ") (" WITHOUT-ZERO ")".
+           DISPLAY "(" DOLLARS ") (" DEBIT ") (" GUARDED ")".
+           DISPLAY "(" STARS ") (" FLOATED ") (" WITH-PLUS ")".
+           DISPLAY "(" LEADING-SIGN ") (" SCALED ") (" THOUSANDS ") ("
+               SPACED ")".

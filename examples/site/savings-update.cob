@@ -1,0 +1,192 @@
+       IDENTIFICATION DIVISION.
+       PROGRAM-ID. SAVUPD.
+       DATE-WRITTEN. MAY 1979.
+       REMARKS.
+           NIGHTLY UPDATE OF THE SAVINGS MASTER.  OLD MASTER AND THE
+           DAY'S ENTRIES, BOTH IN ACCOUNT ORDER, TO NEW MASTER.  MONEY
+           IS PACKED AND COUNTERS ARE BINARY, AS THE COUNTER'S FILE HAS
+           THEM.  D IS PAID IN, W DRAWN OUT, I A DAY'S INTEREST AT SO
+           MUCH PER CENT.
+       ENVIRONMENT DIVISION.
+       CONFIGURATION SECTION.
+       SOURCE-COMPUTER. IBM-370.
+       OBJECT-COMPUTER. IBM-370.
+       INPUT-OUTPUT SECTION.
+       FILE-CONTROL.
+           SELECT OLD-MASTER ASSIGN TO "OLDSAVE.DAT".
+           SELECT DAY-ENTRIES ASSIGN TO "ENTRIES.DAT".
+           SELECT NEW-MASTER ASSIGN TO "NEWSAVE.OUT".
+           SELECT LISTING ASSIGN TO "SAVELIST.OUT".
+       DATA DIVISION.
+       FILE SECTION.
+       FD  OLD-MASTER
+           LABEL RECORDS ARE STANDARD
+           BLOCK CONTAINS 0 RECORDS
+           RECORD CONTAINS 29 CHARACTERS.
+       01  OLD-RECORD.
+           05  OLD-ACCOUNT         PIC 9(7)       COMP-3.
+           05  OLD-NAME            PIC X(12).
+           05  OLD-BALANCE         PIC S9(7)V99   COMP-3.
+           05  OLD-INTEREST        PIC S9(3)V9(4) COMP-3.
+           05  OLD-BRANCH          PIC 9(3)       COMP.
+           05  OLD-ENTRIES         PIC S9(4)      COMP.
+       FD  DAY-ENTRIES
+           LABEL RECORDS ARE STANDARD.
+       01  DAY-ENTRY.
+           05  ENTRY-ACCOUNT       PIC 9(7).
+           05  ENTRY-KIND          PIC X.
+           05  ENTRY-AMOUNT        PIC 9(5)V99.
+       FD  NEW-MASTER
+           LABEL RECORDS ARE STANDARD
+           BLOCK CONTAINS 0 RECORDS.
+       01  NEW-RECORD.
+           05  NEW-ACCOUNT         PIC 9(7)       COMP-3.
+           05  NEW-NAME            PIC X(12).
+           05  NEW-BALANCE         PIC S9(7)V99   COMP-3.
+           05  NEW-INTEREST        PIC S9(3)V9(4) COMP-3.
+           05  NEW-BRANCH          PIC 9(3)       COMP.
+           05  NEW-ENTRIES         PIC S9(4)      COMP.
+       FD  LISTING
+           LABEL RECORDS ARE OMITTED.
+       01  LIST-LINE               PIC X(36).
+       WORKING-STORAGE SECTION.
+       01  COUNTERS                COMP.
+           05  MASTERS-READ        PIC 9(4)       VALUE ZERO.
+           05  MASTERS-WRITTEN     PIC 9(4)       VALUE ZERO.
+           05  ENTRIES-READ        PIC 9(4)       VALUE ZERO.
+           05  ENTRIES-REFUSED     PIC 9(4)       VALUE ZERO.
+       01  SUBSCRIPTS              USAGE IS COMPUTATIONAL.
+           05  B                   PIC S9(4)      VALUE ZERO.
+           05  KIND-NUMBER         PIC S9(4)      VALUE ZERO.
+       01  KEYS                    COMP-3.
+           05  OLD-KEY             PIC 9(9)       VALUE 0.
+           05  ENTRY-KEY           PIC 9(9)       VALUE 0.
+           05  END-KEY             PIC 9(9)       VALUE 999999999.
+       01  BRANCH-TABLE            USAGE COMPUTATIONAL-3.
+           05  BRANCH-TOTAL        PIC S9(9)V99   OCCURS 4 VALUE 0.
+           05  ALL-BRANCHES        PIC S9(9)V99   VALUE 0.
+       77  DAY-RATE                PIC SV9(9)     COMP-3 VALUE 0.
+       01  ENTRY-LINE.
+           05  LINE-ACCOUNT        PIC ZZZ9B999.
+           05  LINE-KIND           PIC X(3).
+           05  LINE-AMOUNT         PIC ZZ,ZZ9.99.
+           05  LINE-REASON         PIC X(15).
+       01  BRANCH-LINE.
+           05  FILLER              PIC X(7)       VALUE "BRANCH".
+           05  BRANCH-SHOWN        PIC Z9.
+           05  TOTAL-SHOWN         PIC $$$,$$$,$$9.99-.
+       PROCEDURE DIVISION.
+       MAIN-LINE SECTION.
+       BEGIN-RUN.
+           OPEN INPUT OLD-MASTER DAY-ENTRIES
+               OUTPUT NEW-MASTER LISTING.
+           PERFORM READ-MASTER THRU READ-MASTER-EXIT.
+           PERFORM READ-ENTRY THRU READ-ENTRY-EXIT.
+       NEXT-MASTER.
+           IF OLD-KEY = END-KEY GO TO LEFT-OVER.
+           MOVE OLD-RECORD TO NEW-RECORD.
+       NEXT-ENTRY.
+           IF ENTRY-KEY > OLD-KEY GO TO PUT-MASTER.
+           IF ENTRY-KEY < OLD-KEY
+               MOVE "  NO ACCOUNT" TO LINE-REASON
+               PERFORM REFUSE
+           ELSE
+               PERFORM POST-ENTRY THRU POST-EXIT.
+           PERFORM READ-ENTRY THRU READ-ENTRY-EXIT.
+           GO TO NEXT-ENTRY.
+       PUT-MASTER.
+           MOVE NEW-BRANCH TO B.
+           IF B < 1 OR > 3 MOVE 4 TO B.
+           IF NEW-BALANCE NUMERIC
+               ADD NEW-BALANCE TO BRANCH-TOTAL (B) ALL-BRANCHES.
+           WRITE NEW-RECORD.
+           ADD 1 TO MASTERS-WRITTEN.
+           PERFORM READ-MASTER THRU READ-MASTER-EXIT.
+           GO TO NEXT-MASTER.
+       LEFT-OVER.
+           IF ENTRY-KEY = END-KEY GO TO SHOW-TOTALS.
+           MOVE "  NO ACCOUNT" TO LINE-REASON.
+           PERFORM REFUSE.
+           PERFORM READ-ENTRY THRU READ-ENTRY-EXIT.
+           GO TO LEFT-OVER.
+       SHOW-TOTALS.
+           PERFORM SHOW-BRANCH VARYING B FROM 1 BY 1 UNTIL B > 4.
+           MOVE ALL-BRANCHES TO TOTAL-SHOWN.
+           DISPLAY "ALL      " TOTAL-SHOWN.
+           DISPLAY "MASTERS " MASTERS-READ " IN, " MASTERS-WRITTEN
+               " OUT, ENTRIES " ENTRIES-READ ", REFUSED "
+               ENTRIES-REFUSED.
+       SHUT-DOWN.
+           CLOSE OLD-MASTER DAY-ENTRIES NEW-MASTER LISTING.
+           STOP RUN.
+       SHOW-BRANCH.
+           MOVE B TO BRANCH-SHOWN.
+           MOVE BRANCH-TOTAL (B) TO TOTAL-SHOWN.
+           DISPLAY BRANCH-LINE.
+       POSTING SECTION.
+       POST-ENTRY.
+           MOVE 0 TO KIND-NUMBER.
+           IF ENTRY-KIND = "D" MOVE 1 TO KIND-NUMBER.
+           IF ENTRY-KIND = "W" MOVE 2 TO KIND-NUMBER.
+           IF ENTRY-KIND = "I" MOVE 3 TO KIND-NUMBER.
+           IF NEW-BALANCE NOT NUMERIC
+               MOVE "  BAD MASTER" TO LINE-REASON
+               GO TO POST-REFUSE.
+           GO TO POST-PAID-IN POST-DRAWN POST-INTEREST
+               DEPENDING ON KIND-NUMBER.
+           MOVE "  BAD KIND" TO LINE-REASON.
+       POST-REFUSE.
+           PERFORM REFUSE.
+           GO TO POST-EXIT.
+       POST-PAID-IN.
+           ADD ENTRY-AMOUNT TO NEW-BALANCE
+               ON SIZE ERROR
+                   MOVE "  TOO MUCH" TO LINE-REASON
+                   GO TO POST-REFUSE.
+           GO TO POST-COUNT.
+       POST-DRAWN.
+           IF ENTRY-AMOUNT > NEW-BALANCE
+               MOVE "  NOT ENOUGH" TO LINE-REASON
+               GO TO POST-REFUSE.
+           SUBTRACT ENTRY-AMOUNT FROM NEW-BALANCE.
+           GO TO POST-COUNT.
+       POST-INTEREST.
+           IF NEW-BALANCE NEGATIVE GO TO POST-COUNT.
+           DIVIDE ENTRY-AMOUNT BY 36500 GIVING DAY-RATE.
+           COMPUTE NEW-INTEREST ROUNDED =
+               NEW-INTEREST + NEW-BALANCE * DAY-RATE.
+           IF NEW-INTEREST < 1 GO TO POST-COUNT.
+      *    A WHOLE DOLLAR IS ADDED TO THE BALANCE
+           ADD NEW-INTEREST TO NEW-BALANCE ROUNDED.
+           MOVE 0 TO NEW-INTEREST.
+       POST-COUNT.
+           ADD 1 TO NEW-ENTRIES.
+       POST-EXIT.
+           EXIT.
+       REFUSE.
+           MOVE ENTRY-ACCOUNT TO LINE-ACCOUNT.
+           MOVE ENTRY-KIND TO LINE-KIND.
+           MOVE ENTRY-AMOUNT TO LINE-AMOUNT.
+           WRITE LIST-LINE FROM ENTRY-LINE.
+           ADD 1 TO ENTRIES-REFUSED.
+       READING SECTION.
+       READ-MASTER.
+           READ OLD-MASTER AT END
+               MOVE END-KEY TO OLD-KEY
+               GO TO READ-MASTER-EXIT.
+           MOVE OLD-ACCOUNT TO OLD-KEY.
+           ADD 1 TO MASTERS-READ.
+       READ-MASTER-EXIT.
+           EXIT.
+       READ-ENTRY.
+           READ DAY-ENTRIES AT END
+               MOVE END-KEY TO ENTRY-KEY
+               GO TO READ-ENTRY-EXIT.
+           ADD 1 TO ENTRIES-READ.
+           IF ENTRY-ACCOUNT NUMERIC AND ENTRY-AMOUNT NUMERIC
+               MOVE ENTRY-ACCOUNT TO ENTRY-KEY
+               GO TO READ-ENTRY-EXIT.
+           ADD 1 TO ENTRIES-REFUSED.
+           GO TO READ-ENTRY.
+       READ-ENTRY-EXIT.
+           EXIT.
