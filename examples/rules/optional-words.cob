@@ -19,6 +19,8 @@
            CLOSE F.
            OPEN I-O F.
            READ F NEXT RECORD AT END GO TO Z.
+           IF R = SPACE OR R = LOW-VALUES OR R < LOW-VALUE
+               DISPLAY "BARE".
            REWRITE R END-REWRITE.
            CLOSE F.
            OPEN EXTEND F.
@@ -29,6 +31,7 @@
                DISPLAY "FAR" END-IF.
            IF N IS NOT GREATER THAN 5 AND N NOT LESS 0
                AND N IS NOT EQUAL TO M DISPLAY "NEAR".
+           MOVE ZEROES TO M.
            PERFORM WITH TEST BEFORE UNTIL M IS EQUAL 3
                ADD 1 TO M
                DISPLAY M WITH NO ADVANCING

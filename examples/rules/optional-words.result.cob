@@ -21,6 +21,9 @@
                AT END
                    CONTINUE
                NOT AT END
+                   IF (R = SPACE OR R = LOW-VALUE) OR R < LOW-VALUE
+                       DISPLAY "BARE"
+                   END-IF
                    REWRITE R
                    CLOSE F
                    OPEN EXTEND F
@@ -32,6 +35,7 @@
                    IF (N <= 5 AND N >= 0) AND N NOT = M
                        DISPLAY "NEAR"
                    END-IF
+                   MOVE ZERO TO M
                    PERFORM UNTIL M = 3
                        ADD 1 TO M
                        DISPLAY M WITH NO ADVANCING

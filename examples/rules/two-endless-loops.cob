@@ -1,0 +1,14 @@
+       IDENTIFICATION DIVISION.
+       PROGRAM-ID. TWO-ENDLESS-LOOPS.
+       DATA DIVISION.
+       WORKING-STORAGE SECTION.
+       01 SIDE PIC 9 VALUE 1.
+       PROCEDURE DIVISION.
+       CROSSING.
+           IF SIDE = 1 GO TO LEFT-SIDE.
+       RIGHT-SIDE.
+           DISPLAY "RIGHT".
+           GO TO RIGHT-SIDE.
+       LEFT-SIDE.
+           DISPLAY "LEFT".
+           GO TO LEFT-SIDE.
