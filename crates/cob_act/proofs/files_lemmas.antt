@@ -8,3 +8,5 @@ pub mod DeskLemmas
 pub mod EffectLemmas
 pub mod ReadLemmas
 pub mod EachLemmas
+-- what was kept of what they did
+pub mod WorkLemmas

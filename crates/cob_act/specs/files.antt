@@ -4,3 +4,5 @@ pub mod Ends
 pub mod Record
 -- what a statement makes of a world that stands over devices which tell their files
 pub mod Over
+-- what statements on files did, where it is kept
+pub mod Work

@@ -12,9 +12,11 @@ mod desk;
 mod fault;
 mod record;
 mod status;
+mod work;
 
 pub use crate::files::acts::{
     ReadRequest, WriteRequest, all_opened, all_shut, read_one, rewritten, written,
 };
 pub use crate::files::desk::close_left;
 pub use crate::files::fault::FileFault;
+pub use crate::files::work::{FileDone, FileVerb, FileWork};

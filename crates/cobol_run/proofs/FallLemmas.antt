@@ -55,3 +55,11 @@ turn_after turned.NoMemory files left mid now old between new table one two = le
 -- no device failed
 pub none_fell : (files : List FileEntry) (left : ℕ) (devices : List Seen) → SameBench files left left devices devices
 none_fell files left devices = left_same (is_used (addresses_of files)) left devices
+
+-- a step and those before it
+pub step_after : (result : Result StepOutcome NoMemory) (files : List FileEntry) (left mid now : ℕ) (old between new : List Seen) (table : List FileRow) → SameBench files left mid old between → StepFalls result files mid now between new table → StepFalls result files left now old new table
+step_after (Ok step.On) files left mid now old between new table one two = left_then (is_used (addresses_of files)) [] left mid now old between new one two
+step_after (Ok step.Shown) files left mid now old between new table one two = left_then (is_used (addresses_of files)) [] left mid now old between new one two
+step_after (Ok (step.Over ending)) files left mid now old between new table one two = left_then (is_used (addresses_of files)) [] left mid now old between new one two
+step_after (Ok step.Failed) files left mid now old between new table one two = (left_then (is_used (addresses_of files)) _ left mid now old between new one two.0, two.1)
+step_after (Err e) files left mid now old between new table one two = left_then (is_used (addresses_of files)) [] left mid now old between new one two

@@ -14,7 +14,9 @@ use Rattle.file_model.specs.World.{World}
 use Rattle.file_model.specs.operations.Seen.{Seen}
 use Rattle.cob_act.specs.declared.files.fault.FileFault.{FileFault}
 use Rattle.cob_act.specs.files.Ends.{ended_as}
+use Rattle.cob_act.specs.declared.files.work.FileWork.{FileWork}
 use Rattle.cob_act.specs.files.Over.{BreaksIn, BrokeIn, Did, world_behind}
+use Rattle.cob_act.specs.files.Work.{Keeps}
 use Rattle.meanings.specs.statements.Does.{does}
 use Rattle.meanings.specs.statements.Filing.{Declared, Effect, Operation, each_file, last_world, opened, rewritten, shut, written}
 use Rattle.control_flow_theory.specs.semantics.Doing.{Doing}
@@ -137,3 +139,38 @@ module _ (declared : Declared) where
         subst Broke (sym is) (acts_break (stmts.Rewrite entry from) (λ last. seen_rewrite last entry from) store world _
         (rw (ap out-Stmt (sym (stmts.rolls-Rewrite entry from)) ∙ out-roll-Stmt (Stmt-F.Rewrite entry from), does) refl) (rewritten_silent declared store world entry from) files result left devices table
         (subst (λ o. BreaksIn result files world (rewritten declared store world entry o) left devices table) same broke))
+
+  -- ---- what a statement kept
+
+  acts_keep : (stmt : Stmt) → ((last : ℕ) → seen last stmt ≡ language.Do (language.Own stmt)) → (store : Roots) (world : World) (effect : Effect) → does declared stmt store world ≡ effect → (result : Result ActOutcome FileFault) (old new : FileWork) (last : ℕ) →
+      Keeps result old new effect.operations → Keeps result old new (stmt_operations declared (seen last stmt) (memory_in store world))
+  acts_keep stmt there store world effect is result old new last kept =
+      subst (λ (ops : List Operation). Keeps result old new ops) (sym (ap (λ s. stmt_operations declared s (memory_in store world)) (there last) ∙ ap (λ (e : Effect). e.operations) is)) kept
+
+  module _ (stmt : Stmt) (store : Roots) (world : World) (result : Result ActOutcome FileFault) (old new : FileWork) (last : ℕ) where
+    abbrev Kept : Stmt → Type 0
+    Kept s = Keeps result old new (stmt_operations declared (seen last s) (memory_in store world))
+
+    pub opens_keep : (openings given : List Opening) → given ≡ openings → stmt ≡ stmts.Opens openings → Keeps result old new (each_file (opened declared) store world given).operations → Kept stmt
+    opens_keep openings given same is kept =
+        subst Kept (sym is) (acts_keep (stmts.Opens openings) (λ last. seen_opens last openings) store world (each_file (opened declared) store world openings)
+        (rw (ap out-Stmt (sym (stmts.rolls-Opens openings)) ∙ out-roll-Stmt (Stmt-F.Opens openings), does) refl) result old new last
+        (subst (λ list. Keeps result old new (each_file (opened declared) store world list).operations) same kept))
+
+    pub closes_keep : (numbers given : List ℕ) → given ≡ numbers → stmt ≡ stmts.Closes numbers → Keeps result old new (each_file (shut declared) store world given).operations → Kept stmt
+    closes_keep numbers given same is kept =
+        subst Kept (sym is) (acts_keep (stmts.Closes numbers) (λ last. seen_closes last numbers) store world (each_file (shut declared) store world numbers)
+        (rw (ap out-Stmt (sym (stmts.rolls-Closes numbers)) ∙ out-roll-Stmt (Stmt-F.Closes numbers), does) refl) result old new last
+        (subst (λ list. Keeps result old new (each_file (shut declared) store world list).operations) same kept))
+
+    pub written_keep : (entry : ℕ) (from given : Option Operand) → given ≡ from → stmt ≡ stmts.Write entry from → Keeps result old new (written declared store world entry given).operations → Kept stmt
+    written_keep entry from given same is kept =
+        subst Kept (sym is) (acts_keep (stmts.Write entry from) (λ last. seen_write last entry from) store world (written declared store world entry from)
+        (rw (ap out-Stmt (sym (stmts.rolls-Write entry from)) ∙ out-roll-Stmt (Stmt-F.Write entry from), does) refl) result old new last
+        (subst (λ o. Keeps result old new (written declared store world entry o).operations) same kept))
+
+    pub rewritten_keep : (entry : ℕ) (from given : Option Operand) → given ≡ from → stmt ≡ stmts.Rewrite entry from → Keeps result old new (rewritten declared store world entry given).operations → Kept stmt
+    rewritten_keep entry from given same is kept =
+        subst Kept (sym is) (acts_keep (stmts.Rewrite entry from) (λ last. seen_rewrite last entry from) store world (rewritten declared store world entry from)
+        (rw (ap out-Stmt (sym (stmts.rolls-Rewrite entry from)) ∙ out-roll-Stmt (Stmt-F.Rewrite entry from), does) refl) result old new last
+        (subst (λ o. Keeps result old new (rewritten declared store world entry o).operations) same kept))

@@ -30,9 +30,13 @@ pub mod MachineLemmas
 pub mod RunningLemmas
 -- the same over devices that tell their files
 pub mod OverRunLemmas
+-- what a step shows, event by event
+pub mod EventLemmas
 -- what a run leaves of the devices of its bench
 pub mod FallLemmas
 -- where no file is open, nothing is left to close
 pub mod ShutLemmas
+-- a run whose events are kept
+pub mod TrackLemmas
 -- What a run of a structured program shows is what its nested statements show.
 pub mod structured_runs_lemmas

@@ -1,6 +1,6 @@
 -- The machine's parts as those of the source machine.
 use Rattle.std.proofs.Common.{◌≡◌, ℕ, zero, suc, ◌+◌, ◌<◌, ◌≤◌, ◌==◌, false, List, [], ◌∷◌, drop, get_or, length, Option, Some, None, is_some, slice_get, Result, Ok, Err, arith, refl, ap, sym, ◌∙◌, subst}
-use Rattle.std.specs.Prelude.{if◌then◌else◌, IfOk}
+use Rattle.std.specs.Prelude.{if◌then◌else◌, IfOk, IsTrue}
 use Rattle.std.proofs.Math.Seq.{drop-cons}
 use Rattle.std.proofs.lemmas.Option.{slice_get-get_or, slice_get_past}
 use Rattle.cob_base.specs.declared.memory.NoMemory.{NoMemory}
@@ -38,6 +38,9 @@ use Rattle.cobol_run.specs.Points.{next_operations, operations_in, stmt_operatio
 use Rattle.control_flow_theory.specs.runs.Run.{Going}
 use Rattle.meanings.specs.statements.Filing.{Operation}
 use Rattle.cobol_run.specs.NextStep.{KeepsPending, way_seen}
+use Rattle.cob_act.specs.declared.files.work.FileWork.{FileWork}
+use Rattle.cobol_run.specs.Events.{IsFiled, Shows}
+use Rattle.cobol_run.proofs.EventLemmas.{follows_shows}
 use Rattle.cobol_run.proofs.FrameLemmas.{sentences_items}
 use Rattle.cobol_run.proofs.OverLemmas.{follows_over}
 use Rattle.cobol_run.proofs.OwnLemmas.{own_alone, plain_alone}
@@ -227,3 +230,23 @@ module _ (old : Machine) (frames : List Frame) (shown : List ℕ) (new : Machine
   files_breaks stmt rest left devices result is world trace breaks =
       subst (λ (operations : List Operation). StepBreaks result new world operations left devices)
       (sym (ap (λ (list : List Item). next_operations (declared_by old.plan) Going list (memory_in old.held.store world)) is)) breaks
+
+  -- ---- the events of a step
+
+  pub own_shows : (devices : List Seen) (result : Result StepOutcome NoMemory) → NoFiling next → Heads here new result next → new.work.done.items ≡ [] →
+      IfOk result (λ step. (world : World) (trace : Trace) → OwnState (state_in old world trace) → StandsOver old devices world → IsTrue old.work.keeps → Shows step new trace (steps_by old.plan (state_in old world trace)))
+  own_shows devices (Err e) free h none = tt
+  own_shows devices (Ok step) free h none = λ world trace own stands keeps.
+      step_headed old frames shown next (λ state. Shows step new trace state) there same world trace
+      (follows_shows step new world trace _ none
+      (h world trace (rest_in old) (own_alone (last-in old) next (rest_of (last-in old) frames) free (subst (standing.ItemsHave OwnAct OwnTest OwnPicker) there own.0))))
+
+  pub files_shows : (stmt : Stmt) (devices : List Seen) (work : FileWork) (result : Result StepOutcome NoMemory) → ((rest : List Item) → heads (last-in old) next rest ≡ items.Do (seen (last-in old) stmt) ∷ rest) → is_inner stmt ≡ false → IsFiled stmt → work.keeps ≡ old.work.keeps → work.done.items ≡ [] →
+      IfOk result (λ step. (world : World) (trace : Trace) (rest : List Item) → is_inner stmt ≡ false → IsFiled stmt → StandsOver here devices world → IsTrue work.keeps → work.done.items ≡ [] →
+      Shows step new trace (goes_by here.plan (stmt_meant here stmt world) (state_with here rest (memory_in here.held.store world) trace))) →
+      IfOk result (λ step. (world : World) (trace : Trace) → OwnState (state_in old world trace) → StandsOver old devices world → IsTrue old.work.keeps → Shows step new trace (steps_by old.plan (state_in old world trace)))
+  files_shows stmt devices work (Err e) is outer filed keeping none h = tt
+  files_shows stmt devices work (Ok step) is outer filed keeping none h = λ world trace own stands keeps.
+      step_headed old frames shown next (λ state. Shows step new trace state) there same world trace
+      (subst (λ list. Shows step new trace (rests_by old.plan list (state_with here (rest_in old) (memory_in old.held.store world) trace))) (sym (is (rest_in here)))
+      (h world trace (rest_in old) outer filed stands (subst IsTrue (sym keeping) keeps) none))

@@ -72,6 +72,16 @@ closed-stands addresses devices table n files is same = record {
   apart = λ file other address state state_there there other_there here here_there is_open is_open_there. absurd (let x : false ≡ true = subst (λ (s : FileState). IsTrue (is_some s.row.how)) (sym (all-closed n file state here)) is_open in cc);
 }
 
+pub stands_at_start : (program : Program) (machine : Machine) (devices : List Seen) (files : Files) → machine.plan.program.now ≡ program → machine.table.rows ≡ replicate (length program.files) closed_row → length program.files < 2 ^ 32 → TellFiles program devices files →
+    StandsOver machine devices (world_with (declared_in program) files)
+stands_at_start program machine devices files same closed few tell =
+    subst (λ (p : Program). IsOver p.files devices machine.table.rows (world_with (declared_in program) files)) (sym same) (record {
+      rows = ap length closed ∙ length-replicate (length program.files) closed_row;
+      few = few;
+      told = tell.told;
+      stands = closed-stands (addresses_of program.files) devices machine.table.rows (length program.files) files closed tell.same;
+    })
+
 pub over_at_start : (program : Program) (machine : Machine) (devices : List Seen) (files : Files) (held : Option (List ℕ)) (count : ℕ) → declared_by machine.plan ≡ declared_in program → machine.plan.program.now ≡ program →
     machine.table.rows ≡ replicate (length program.files) closed_row → length program.files < 2 ^ 32 → TellFiles program devices files →
     state_in machine (world_with (declared_in program) files) [] ≡ begun_in program (declared_in program) files → SoFarOver program files machine devices 0 (gaining held held count count)
@@ -83,12 +93,7 @@ over_at_start program machine devices files held count declared same closed few 
   trace = [];
   reached = sym begun;
   gained = gained-nothing held;
-  stands = subst (λ (p : Program). IsOver p.files devices machine.table.rows (world_with (declared_in program) files)) (sym same) (record {
-    rows = ap length closed ∙ length-replicate (length program.files) closed_row;
-    few = few;
-    told = tell.told;
-    stands = closed-stands (addresses_of program.files) devices machine.table.rows (length program.files) files closed tell.same;
-  });
+  stands = stands_at_start program machine devices files same closed few tell;
 }
 
 pub over_one_more : (program : Program) (files : Files) (machine : Machine) (devices : List Seen) (done : ℕ) (sink : SinkCall) → SoFarOver program files machine devices (suc done) sink → SoFarOver program files machine devices (done + 1) sink
@@ -168,16 +173,24 @@ module _ (program : Program) (files : Files) (machine : Machine) (devices : List
         subst (OpenYet [] machine devices) (sym world_here) (open_over machine devices so_far.world so_far.stands),
       )
 
-  own-before : IsOwn program → OwnState (state_in machine so_far.world so_far.trace)
-  own-before own =
+  pub own_before : IsOwn program → OwnState (state_in machine so_far.world so_far.trace)
+  own_before own =
       let all = own_stands (control_of program).paragraphs own in
       subst OwnState so_far.reached (iterate-has OwnAct OwnTest OwnPicker (doing_in (declared_in program)) files_left (control_of program) all done (begun_in program (declared_in program) files) (begun-has OwnAct OwnTest OwnPicker (doing_in (declared_in program)) files_left (control_of program) all (first_memory (declared_in program) files)))
+
+  -- the next state, as the machine has it
+  pub next_is : after program files (suc done) ≡ steps_by machine.plan (state_in machine so_far.world so_far.trace)
+  next_is =
+      let state : State = state_in machine so_far.world so_far.trace in
+      iterate-next (next_state program) done (begun_in program (declared_in program) files)
+      ∙ ap (next_state program) so_far.reached
+      ∙ sym (ap (λ p. step_in p (declared_by machine.plan) state) so_far.same ∙ ap (λ d. step_in program d state) so_far.declared)
 
   module _ (own : IsOwn program) (new : Machine) (left : ℕ) (devices_now : List Seen) (plan : new.plan ≡ machine.plan) where
     -- a step that broke off
     module _ (result : Result StepOutcome NoMemory) (breaks : (world : World) (trace : Trace) → OwnState (state_in machine world trace) → StandsOver machine devices world → StepBreaks result new world (operations_in (declared_by machine.plan) (state_in machine world trace)) left devices_now) where
       abbrev broken : StepBreaks result new so_far.world operations_next left devices_now
-      broken = breaks so_far.world so_far.trace (own-before own) so_far.stands
+      broken = breaks so_far.world so_far.trace (own_before own) so_far.stands
 
       pub over_failed : result ≡ Ok step.Failed → done < steps → BreaksAt program files steps (gaining held now count count_now) (OpenYet (gone_by faults.Device left devices_now) new (take left devices_now))
       over_failed is within =
@@ -193,13 +206,8 @@ module _ (program : Program) (files : Files) (machine : Machine) (devices : List
         (follows : (world : World) (trace : Trace) → OwnState (state_in machine world trace) → StandsOver machine devices world → FollowsOver made new (take left devices_now) world trace (steps_by machine.plan (state_in machine world trace))) where
       next-over : FollowsOver made new (take left devices_now) so_far.world so_far.trace (after program files (suc done))
       next-over =
-          let state : State = state_in machine so_far.world so_far.trace in
-          let whole : after program files (suc done) ≡ steps_by machine.plan state =
-          iterate-next (next_state program) done (begun_in program (declared_in program) files)
-          ∙ ap (next_state program) so_far.reached
-          ∙ sym (ap (λ p. step_in p (declared_by machine.plan) state) so_far.same ∙ ap (λ d. step_in program d state) so_far.declared) in
-          subst (λ s. FollowsOver made new (take left devices_now) so_far.world so_far.trace s) (sym whole)
-          (follows so_far.world so_far.trace (own-before own) so_far.stands)
+          subst (λ s. FollowsOver made new (take left devices_now) so_far.world so_far.trace s) (sym next_is)
+          (follows so_far.world so_far.trace (own_before own) so_far.stands)
 
       declared-then : declared_by new.plan ≡ declared_in program
       declared-then = ap declared_by plan ∙ so_far.declared

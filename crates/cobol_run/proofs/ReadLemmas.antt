@@ -19,7 +19,9 @@ use Rattle.file_model.specs.operations.Seen.{Seen}
 use Rattle.cob_act.specs.declared.files.fault.FileFault.{FileFault}
 use Rattle.cob_act.specs.files.Ends.{ended_as}
 use Rattle.cob_act.specs.declared.files.fault.FileFault.TheVariants as faults
+use Rattle.cob_act.specs.declared.files.work.FileWork.{FileWork}
 use Rattle.cob_act.specs.files.Over.{BreaksIn, BrokeIn, Did, IsOver, world_behind}
+use Rattle.cob_act.specs.files.Work.{Keeps}
 use Rattle.cob_act.proofs.files_lemmas.DeskLemmas.{over_left}
 use Rattle.meanings.specs.statements.Does.{has_arms}
 use Rattle.meanings.specs.statements.Filing.{Abended, Chose, Declared, Effect, Ended, Operation, Went, address_at, after, into_by, last_world, no_effect, of_outcome, operated_to, read, record_put, record_spot, then_by}
@@ -276,3 +278,11 @@ module _ (declared : Declared) (file : ℕ) (place : Option Place) (arms : Arms)
       subst (λ (f : FileFault). FiledBreaks (Err f) files world (λ last. stmt_operations declared (seen last stmt) (memory_in store world)) left devices table) (sym only)
       (read_break stmt is faults.NoMemory files left devices table given at_end has p a
       (length ops, subst (λ (w : World). BrokeIn faults.NoMemory files w left devices table) (sym (ap (last_world world) (whole ops))) (over_left files left devices table (last_world world ops) did.2)))
+
+  -- ---- what a READ kept
+
+  pub read_keep : (stmt : Stmt) → stmt ≡ stmts.Read file place arms → (made : ActOutcome) (result : Result ActOutcome FileFault) (old new : FileWork) (last : ℕ) (given : Option Place) (at_end has : Bool) → given ≡ place → at_end ≡ is_some (out-Arms arms).first →
+      Keeps {A = ActOutcome} (Ok made) old new (read declared store world file given at_end has).operations → Keeps result old new (stmt_operations declared (seen last stmt) (memory_in store world))
+  read_keep stmt is made (Err fault) old new last given at_end has p a kept = tt
+  read_keep stmt is made (Ok other) old new last given at_end has p a kept =
+      subst (λ (ops : List Operation). Keeps {A = ActOutcome} (Ok other) old new ops) (read_operations last given at_end has p a ∙ ap (λ s. stmt_operations declared (seen last s) (memory_in store world)) (sym is)) kept

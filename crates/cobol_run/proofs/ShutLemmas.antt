@@ -173,12 +173,12 @@ never_unnamed room result used later last left now at old new fits so is named n
 
 -- ---- the files are closed
 
-record Ends (names : List (List ℕ)) : Type 0 where
+pub record Ends (names : List (List ℕ)) : Type 0 where
   pub later : List (List ℕ)
   pub last : List ℕ
   pub is : names ≡ later ++ last ∷ []
 
-ends_of : (names : List (List ℕ)) → are_some names ≡ true → Ends names
+pub ends_of : (names : List (List ℕ)) → are_some names ≡ true → Ends names
 ends_of [] e = cc
 ends_of (name ∷ []) e = record { later = []; last = name; is = refl }
 ends_of (name ∷ other ∷ names) e =

@@ -24,5 +24,7 @@ pub mod Points
 pub mod Falling
 -- steps and runs over devices that tell their files
 pub mod Over
+-- what a step shows, event by event
+pub mod Events
 -- What a run of a structured program shows is what its nested statements show.
 pub mod structured_runs

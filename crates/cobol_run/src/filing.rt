@@ -6,9 +6,11 @@ ghost use Rattle.control_flow_theory.specs.semantics.Items.{item_way};
 ghost use Rattle.cobol_theory.specs.cobol_meaning.Runs.{doing_in};
 ghost use Rattle.cob_act.specs.files.Ends.{DoneOver};
 ghost use Rattle.cob_act.specs.files.Over.{IsOver};
+ghost use Rattle.cob_act.specs.files.Work.{Keeps};
 ghost use Rattle.file_model.specs.World.{World};
 ghost use Rattle.control_flow_theory.specs.language.Control.{seen};
 ghost use Rattle.control_flow_theory.specs.language.Items.{Do};
+ghost use Rattle.cobol_run.specs.Events.{IsFiled};
 ghost use Rattle.cobol_run.specs.Filing.{StandsInNone};
 ghost use Rattle.cobol_run.specs.Frames.{rest_of};
 ghost use Rattle.cobol_run.specs.Over.{FiledBreaks, FiledOver, armed_rest};
@@ -21,7 +23,8 @@ use crate::frames::push_stmts;
 use crate::held::{Held, Plan};
 use crate::next_step::stmts_or_none;
 use cob_act::files::{
-    FileFault, ReadRequest, WriteRequest, all_opened, all_shut, read_one, rewritten, written,
+    FileFault, FileWork, ReadRequest, WriteRequest, all_opened, all_shut, read_one, rewritten,
+    written,
 };
 use cob_act::{ActOutcome, has_arms};
 use cob_store::Stack;
@@ -30,10 +33,11 @@ use file_model::operations::Watched;
 use file_model::{Bench, Device, FileTable};
 
 /// Whether a statement is one on files.
-#[tactic(auto, using(crate::proofs::FilingLemmas::filing_none))]
+#[tactic(auto, using(crate::proofs::FilingLemmas::filing_none, crate::proofs::EventLemmas::filing_shows))]
 pub fn is_filing(stmt: &Stmt) -> bool
     ensures of { result ≡ not (is_inner stmt.now) }
     ensures none { IsTrue result → StandsInNone stmt.now }
+    ensures shows { IsTrue result → IsFiled stmt.now }
 {
     match stmt {
         Stmt::Opens(_) => true,
@@ -83,6 +87,7 @@ pub fn filed<'a>(
     table: &mut FileTable,
     bench: &mut Bench,
     stmt: &'a Stmt,
+    work: &mut FileWork,
 ) -> Result<ActOutcome, FileFault>
     ensures bench { DoneOver result plan.now.program.now.files bench.old.left bench.new.left
         (map ⟦<Box<dyn Device> as Watched>⟧.seen bench.old.devices.items)
@@ -104,15 +109,32 @@ pub fn filed<'a>(
         (memory_in held.old.store world)) bench.new.left
         (map ⟦<Box<dyn Device> as Watched>⟧.seen bench.new.devices.items) table.new.rows }
     ensures pending { IfOk result (λ done. KeepsPending frames.old frames.new) }
+    ensures logged { (world : World) (last : ℕ) → is_inner stmt.now ≡ false →
+        IsOver plan.now.program.now.files
+        (take bench.old.left (map ⟦<Box<dyn Device> as Watched>⟧.seen bench.old.devices.items))
+        table.old.rows world → Keeps result work.old work.new
+        (stmt_operations (declared_by plan.now) (seen last stmt.now)
+        (memory_in held.old.store world)) }
+    ensures keeps { work.new.keeps ≡ work.old.keeps }
 {
-    let Held { store, scratch, .. } = held;
+    let store = &mut held.store;
     let program = plan.program;
     let areas = &plan.areas;
     match stmt {
         Stmt::Opens(openings) => {
-            all_opened(program, areas, store, bench, table, openings.as_slice())
+            all_opened(
+                program,
+                areas,
+                store,
+                bench,
+                table,
+                openings.as_slice(),
+                work,
+            )
         }
-        Stmt::Closes(files) => all_shut(program, areas, store, bench, table, files.as_slice()),
+        Stmt::Closes(files) => {
+            all_shut(program, areas, store, bench, table, files.as_slice(), work)
+        }
         Stmt::Read { file, into, arms } => {
             let reading = ReadRequest {
                 file: *file,
@@ -120,7 +142,7 @@ pub fn filed<'a>(
                 at_end: arms.first.is_some(),
                 arms: has_arms(arms),
             };
-            let done = read_one(program, areas, store, scratch, bench, table, reading)?;
+            let done = read_one(program, areas, store, work, bench, table, reading)?;
             push_arm(frames, arms, done)
         }
         Stmt::Write { entry, from } => {
@@ -128,14 +150,14 @@ pub fn filed<'a>(
                 entry: *entry,
                 from: from.as_ref(),
             };
-            written(program, areas, store, scratch, bench, table, writing)
+            written(program, areas, store, work, bench, table, writing)
         }
         Stmt::Rewrite { entry, from } => {
             let writing = WriteRequest {
                 entry: *entry,
                 from: from.as_ref(),
             };
-            rewritten(program, areas, store, scratch, bench, table, writing)
+            rewritten(program, areas, store, work, bench, table, writing)
         }
         _ => Ok(ActOutcome::Went),
     }

@@ -7,10 +7,11 @@
 //! over devices whose files are known (`FollowsOver` in specs/Over.antt). `state_in` in
 //! specs/Machine.antt says which `SourceState` a machine is in. `next_step` says what the head of
 //! the rest comes to, `statement` what each statement does and `filing` what those on files do (ISO
-//! 1989:1985, PROCEDURE DIVISION).
+//! 1989:1985, PROCEDURE DIVISION). `events` makes a run step by step whose events can be read.
 #![tactic(auto)]
 
 pub mod constant_places;
+pub mod events;
 mod filing;
 mod frame;
 mod frames;
@@ -24,4 +25,4 @@ pub mod structured_runs;
 pub use frame::{Body, Frame, LoopProgress};
 pub use held::{Held, Plan};
 pub use machine::{Ending, Machine, StepOutcome};
-pub use running::{Ran, run, start};
+pub use running::{Ran, name_room, run, start};

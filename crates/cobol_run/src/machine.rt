@@ -1,6 +1,6 @@
 //! A program as it runs, step by step.
 
-ghost use Rattle.std.specs.Prelude.{◌≡◌, ◌≢◌, ◌<◌, ◌^◌, [], List, IfOk, IfSome, IsErr, Ok, None, false, length, map, take};
+ghost use Rattle.std.specs.Prelude.{◌≡◌, ◌≢◌, ◌<◌, ◌^◌, [], List, IfOk, IfSome, IsErr, IsTrue, Ok, None, false, length, map, take};
 ghost use Rattle.file_model.specs.World.{World};
 ghost use Rattle.cob_act.specs.Acting.{is_inner};
 ghost use Rattle.control_flow_theory.specs.semantics.Outcome.{Trace};
@@ -18,6 +18,7 @@ ghost use Rattle.cobol_run.specs.Plain.{PlainState};
 ghost use Rattle.cobol_run.specs.Plan.{declared_by, memory_in};
 ghost use Rattle.cobol_run.specs.Points.{operations_in, stmt_operations};
 ghost use Rattle.cobol_run.specs.NextStep.{KeepsPending, way_seen};
+ghost use Rattle.cobol_run.specs.Events.{IsFiled, Shows};
 
 use crate::filing::{filed, is_filing};
 use crate::frame::Frame;
@@ -26,7 +27,7 @@ use crate::held::{Held, Plan};
 use crate::next_step::{NextStep, turning_way};
 use crate::statement::{performed_once, stmt_way};
 use cob_act::ActOutcome;
-use cob_act::files::FileFault;
+use cob_act::files::{FileFault, FileWork};
 use cob_base::{NoMemory, Text};
 use cob_store::Stack;
 use cob_tree::{Abend, FlowFault, Paragraph, Stmt};
@@ -62,6 +63,8 @@ pub struct Machine<'a> {
     pub held: Held,
     /// The state of each of its files.
     pub table: FileTable,
+    /// What the step did with files, where that is kept.
+    pub work: FileWork,
 }
 
 // What a statement on files comes to.
@@ -92,6 +95,7 @@ fn filing_of<'a>(head: Head<'a>) -> Option<&'a Stmt>
     ensures here { IfSome result (λ stmt. (head.entry ≡ Head.Stmt stmt)
         × (is_inner stmt.now ≡ false) × StandsInNone stmt.now) }
     ensures none { result ≡ None → NoFiling head.entry }
+    ensures shows { IfSome result (λ stmt. IsFiled stmt.now) }
 {
     match head {
         Head::Stmt(stmt) => { if is_filing(stmt) { Some(stmt) } else { None } }
@@ -130,6 +134,7 @@ impl<'a> Machine<'a> {
         ensures plan { self.new.plan ≡ self.old.plan }
         ensures held { self.new.held ≡ self.old.held }
         ensures table { self.new.table ≡ self.old.table }
+        ensures work { self.new.work ≡ self.old.work }
     {
         leave(&mut self.frames)?;
         self.paragraph = number;
@@ -150,6 +155,7 @@ impl<'a> Machine<'a> {
         ensures live { IfOk result (λ step. step ≢ StepOutcome.Failed) }
         ensures plan { self.new.plan ≡ self.old.plan }
         ensures table { self.new.table ≡ self.old.table }
+        ensures work { self.new.work ≡ self.old.work }
     {
         if (self.paragraph as usize) + 1 < self.plan.program.paragraphs.len() {
             self.go_to(self.paragraph + 1)?;
@@ -169,6 +175,7 @@ impl<'a> Machine<'a> {
         ensures live { IfOk result (λ step. step ≢ StepOutcome.Failed) }
         ensures plan { self.new.plan ≡ self.old.plan }
         ensures table { self.new.table ≡ self.old.table }
+        ensures work { self.new.work ≡ self.old.work }
     {
         match take_return(&mut self.frames) {
             None => self.fall(),
@@ -199,6 +206,7 @@ impl<'a> Machine<'a> {
         ensures live { IfOk result (λ step. step ≢ StepOutcome.Failed) }
         ensures plan { self.new.plan ≡ self.old.plan }
         ensures table { self.new.table ≡ self.old.table }
+        ensures work { self.new.work ≡ self.old.work }
     {
         if is_pending(&self.frames, exit) {
             let fault = FlowFault::Reentry(exit);
@@ -223,6 +231,7 @@ impl<'a> Machine<'a> {
         ensures live { IfOk result (λ step. step ≢ StepOutcome.Failed) }
         ensures plan { self.new.plan ≡ self.old.plan }
         ensures table { self.new.table ≡ self.old.table }
+        ensures work { self.new.work ≡ self.old.work }
     {
         match way {
             NextStep::On => Ok(StepOutcome::On),
@@ -265,6 +274,13 @@ impl<'a> Machine<'a> {
             (memory_in self.old.held.store world)) bench.new.left
             (map ⟦<Box<dyn Device> as Watched>⟧.seen bench.new.devices.items) }
         ensures plan { self.new.plan ≡ self.old.plan }
+        ensures events { IfOk result (λ step. (world : World) (trace : Trace) (rest : List Item) →
+            is_inner stmt.now ≡ false → IsFiled stmt.now → StandsOver self.old (take bench.old.left
+            (map ⟦<Box<dyn Device> as Watched>⟧.seen bench.old.devices.items)) world →
+            IsTrue self.old.work.keeps → self.old.work.done.items ≡ [] →
+            Shows step self.new trace (goes_by self.old.plan (stmt_meant self.old stmt.now world)
+            (state_with self.old rest (memory_in self.old.held.store world) trace))) }
+        ensures keeps { self.new.work.keeps ≡ self.old.work.keeps }
     {
         let done = filed(
             &self.plan,
@@ -273,6 +289,7 @@ impl<'a> Machine<'a> {
             &mut self.table,
             bench,
             stmt,
+            &mut self.work,
         );
         match done {
             Ok(done) => Ok(step_after(done)),
@@ -292,6 +309,7 @@ impl<'a> Machine<'a> {
         ensures live { IfOk result (λ step. step ≢ StepOutcome.Failed) }
         ensures plan { self.new.plan ≡ self.old.plan }
         ensures table { self.new.table ≡ self.old.table }
+        ensures work { self.new.work ≡ self.old.work }
     {
         match head {
             Head::Nothing => self.end(),
@@ -311,8 +329,9 @@ impl<'a> Machine<'a> {
         }
     }
 
-    /// Makes one step. The bytes that it shows are in `held.shown`. Statements on files are done
-    /// over the bench, and a device that fails is taken off it.
+    /// Makes one step. The bytes that it shows are in `held.shown`, and what it does with files is
+    /// in `work` where that is kept. Statements on files are done over the bench, and a device that
+    /// fails is taken off it.
     #[tactic(auto, using(crate::proofs::FallLemmas::asks_none))]
     pub fn step(&mut self, bench: &mut Bench) -> Result<StepOutcome, NoMemory>
         ensures step { IfOk result (λ step. (world : World) (trace : Trace) →
@@ -342,11 +361,20 @@ impl<'a> Machine<'a> {
         // without statements on files the devices aren't used
         ensures kept { (world : World) (trace : Trace) → PlainState (state_in self.old world trace) →
             (bench.new ≡ bench.old) × (self.new.table ≡ self.old.table) }
+
+        // over devices whose files are known it shows these events
+        ensures events { IfOk result (λ step. (world : World) (trace : Trace) →
+            OwnState (state_in self.old world trace) → StandsOver self.old (take bench.old.left
+            (map ⟦<Box<dyn Device> as Watched>⟧.seen bench.old.devices.items)) world →
+            IsTrue self.old.work.keeps → Shows step self.new trace
+            (steps_by self.old.plan (state_in self.old world trace))) }
+        ensures keeps { self.new.work.keeps ≡ self.old.work.keeps }
     {
         if self.plan.program.paragraphs.len() >= 1 << 32 {
             return Err(NoMemory);
         }
         clear(&mut self.held.shown);
+        self.work.clear();
         let head = next(&mut self.frames)?;
         match filing_of(head) {
             Some(stmt) => self.file_step(bench, stmt),

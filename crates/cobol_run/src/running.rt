@@ -22,7 +22,7 @@ ghost use Rattle.cobol_run.specs.Running.{RunsAs, SoFar, TurnsTo, since};
 use crate::constant_places::with_known;
 use crate::held::{Held, Plan};
 use crate::machine::{Ending, Machine, StepOutcome};
-use cob_act::files::close_left;
+use cob_act::files::{FileWork, close_left};
 use cob_base::giving::give_all;
 use cob_base::{NoMemory, Sink, Text};
 use cob_store::{Stack, Store, layout};
@@ -87,6 +87,7 @@ pub fn start<'a>(alloc: Global, program: &'a Program) -> Result<Machine<'a>, NoM
             shown: Text::new(alloc),
         },
         table,
+        work: FileWork::new(alloc),
     };
     machine.go_to(0)?;
     Ok(machine)
@@ -156,8 +157,8 @@ fn device_name(device: &Box<dyn Device>) -> &[u8]
     device.name()
 }
 
-// Makes room for the name of each device, so that a device fault needs no memory.
-fn name_room(alloc: Global, bench: &Bench) -> Result<Vec<u8>, NoMemory>
+/// Makes room for the name of each device, so that a device fault needs no memory.
+pub fn name_room(alloc: Global, bench: &Bench) -> Result<Vec<u8>, NoMemory>
     ensures { IfOk result (λ room. NamesFit (vec_capacity room)
         (map ⟦<Box<dyn Device> as Watched>⟧.seen bench.now.devices.items)) }
 {
@@ -181,8 +182,8 @@ fn add_room(room: &mut Vec<u8>, bench: &Bench, at: usize) -> Result<(), NoMemory
     Ok(())
 }
 
-// The answer where the device at that place failed, whose name the room is for.
-fn device_fault(alloc: Global, room: &mut Vec<u8>, bench: &Bench, at: usize) -> Ran
+/// The answer where the device at that place failed, whose name the room is for.
+pub fn device_fault(alloc: Global, room: &mut Vec<u8>, bench: &Bench, at: usize) -> Ran
     ensures live { result ≢ Ran.WriteFault }
     ensures named { NamesDevice (vec_capacity room.old) result
         (slice_get (map ⟦<Box<dyn Device> as Watched>⟧.seen bench.now.devices.items) at) }

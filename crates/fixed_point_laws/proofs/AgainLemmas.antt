@@ -7,7 +7,7 @@ use Rattle.cob_tree.specs.declared.stmt.Stmt.TheVariants.{Continue}
 use Rattle.control_flow_theory.specs.language.Control.{control_of}
 use Rattle.control_flow_theory.specs.language.Language as language
 use Rattle.control_flow_theory.specs.language.Language.{Act, Picker, Range, Main, Part, Stmt, Do, Choose, Loop, Perform, Go, GoDepending, NextSentence, ExitParagraph, ExitSection, ExitPerform, StopRun, Stmts, none, also, Arms, done, given, missing, Body, Nested, Performed}
-use Rattle.control_flow_theory.specs.language.Structured.{StmtsNest, IsStructured}
+use Rattle.control_flow_theory.specs.language.Structured.{StmtsNest, IsStructuredControl}
 use Rattle.control_flow_theory.specs.lowering.Completes.{skips}
 use Rattle.control_flow_theory.specs.lowering.FlowFacts.{FlowFacts, IsSource}
 use Rattle.control_flow_theory.specs.language.OwnItems.{NamesOwnItems}
@@ -185,7 +185,7 @@ module _ (program made : Program) (summary : Summary) (well : IsWellMade program
   pub result : result_by plan (control_of program) naming ≡ control_of made
   result = sym written.control
 
-  structured : IsStructured (control_of made)
+  structured : IsStructuredControl (control_of made)
   structured = (joined.behave-alike program made summary well flows split).0
 
   -- ---- planned once more
@@ -224,7 +224,7 @@ module _ (program made : Program) (summary : Summary) (well : IsWellMade program
         subst (λ told. IsSource told (control_of made)) (sym p.told)
         (sources.source (declared_in made) p.returning made items_made paragraphs_made)
 
-    fair : theory.IsFaulty p.plan.told (control_of made) → ⊥
+    fair : theory.HasFaultyRun p.plan.told (control_of made) → ⊥
     fair = no-fault p.plan.told (control_of made) structured
 
     first-written : IsFirstWritten plan (control_of program) naming p.plan.told
@@ -233,7 +233,7 @@ module _ (program made : Program) (summary : Summary) (well : IsWellMade program
       gives = gives;
       planned = planned.planned;
       nests = λ number procedure is. (counted number procedure is).0;
-      structured = subst IsStructured (sym result) structured;
+      structured = subst IsStructuredControl (sym result) structured;
       result = subst (IsSource p.plan.told) (sym result) other-source;
       names = names;
     }
@@ -302,7 +302,7 @@ module _ (program made : Program) (summary : Summary) (well : IsWellMade program
       gives = gives;
       planned = planned.planned;
       nests = λ number procedure is. (counted number procedure is).0;
-      structured = subst IsStructured (sym result) structured;
+      structured = subst IsStructuredControl (sym result) structured;
       result = subst (IsSource p.plan.told) (sym result) other-source;
       result_planned = subst (λ q. IsPlan p.plan.told q p.plan.keep p.plan.others) (sym result) p.planned;
       many = many;

@@ -4,7 +4,7 @@ use Rattle.std.specs.Prelude.{slice_get}
 use Rattle.std.proofs.lemmas.Bool.Decides.{eqb_tells}
 use Rattle.control_flow_theory.specs.language.Language.{Evaluate, Read, Arith, Depending, Perform, StopRun, Range, Main, Part}
 use Rattle.control_flow_theory.specs.language.Items.{Item, Do, SentenceEnd}
-use Rattle.control_flow_theory.specs.language.Structured.{StmtsNest, IsStructured}
+use Rattle.control_flow_theory.specs.language.Structured.{StmtsNest, IsStructuredControl}
 use Rattle.control_flow_theory.specs.semantics.Items.{Way, On, Into, To, ToEnd, item_way}
 use Rattle.control_flow_theory.specs.semantics.Graph.{Label, end_of}
 use Rattle.control_flow_theory.specs.lowering.FlowFacts.{FlowFacts}
@@ -111,7 +111,7 @@ or_it a (Some b) = b
 same : result_by stopping_plan stopping (naming_in stopping_way) ≡ stopping
 same = refl
 
-structured : IsStructured stopping
+structured : IsStructuredControl stopping
 structured = record {
   nests = ((tt, tt), tt);
   stops = refl;

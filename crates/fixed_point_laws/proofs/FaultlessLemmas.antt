@@ -4,7 +4,7 @@ use Rattle.cob_tree.specs.declared.file.FileEntry.{FileEntry}
 use Rattle.control_flow_theory.specs.language.Control.{control_of}
 use Rattle.control_flow_theory.specs.language.Language.{Chooser, Evaluate, Read, Arith, Depending, Program}
 use Rattle.control_flow_theory.specs.lowering.FlowFacts.{FlowFacts}
-use Rattle.control_flow_theory.specs.language.Structured.{IsStructured}
+use Rattle.control_flow_theory.specs.language.Structured.{IsStructuredControl}
 use Rattle.control_flow_theory.specs.lowering.flow.Paths.{free, nothing_left}
 use Rattle.control_flow_theory.specs.lowering.flow.Paths as theory
 use Rattle.control_flow_theory.proofs.semantics_agree_lemmas.Faultless.{structured-faultless}
@@ -31,7 +31,7 @@ same-first files (Depending on names) = refl
 pub same-told : (files : List FileEntry) → never_first_of files ≡ never_ends files
 same-told files = λ i chooser. same-first files chooser i
 
-pub no-fault : (told : FlowFacts) (program : Program) → IsStructured program → theory.IsFaulty told program → ⊥
+pub no-fault : (told : FlowFacts) (program : Program) → IsStructuredControl program → theory.HasFaultyRun told program → ⊥
 no-fault told program structured there = structured-faultless (free told) nothing_left program structured there.0 there.1 there.2 there.3
 
 pub are-faultless : StructuredProgramsAreFaultless

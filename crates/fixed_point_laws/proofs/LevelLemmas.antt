@@ -8,7 +8,7 @@ use Rattle.control_flow_theory.specs.semantics.Doing.{Doing}
 use Rattle.control_flow_theory.specs.language.Items.{Turning, Counted, Tests, Steps, StepsAfter, Item, Do, SentenceEnd, Turn, before, before_body, before_arm, items_of}
 use Rattle.control_flow_theory.specs.semantics.Items.{Way, On, Halts, Into, To, ToEnd, way_after, tried, on, first_turn, varying, loop_begins, turns, tests, steps_on, turn_way, stmt_way, item_way}
 use Rattle.control_flow_theory.specs.semantics.Source.{rest_of}
-use Rattle.control_flow_theory.specs.language.Structured.{StmtNests, StmtsNest, ArmsNest, BodyNests, NamesLater, ParagraphNests, ParagraphsNest, EndsInStop, FirstStops, IsStructured}
+use Rattle.control_flow_theory.specs.language.Structured.{StmtNests, StmtsNest, ArmsNest, BodyNests, NamesLater, ParagraphNests, ParagraphsNest, EndsInStop, FirstStops, IsStructuredControl}
 use Rattle.control_flow_theory.specs.lowering.FlowFacts.{FlowFacts}
 use Rattle.control_flow_theory.specs.lowering.flow.Comes.{Comes, IsNoExit, begins, enters, goes_on, goes_to, goes_to_end, over, falls}
 use Rattle.control_flow_theory.specs.lowering.flow.Paths.{free}
@@ -135,7 +135,7 @@ module _ {Memory : Type 0} (doing : Doing Memory) (Such : ℕ → ℕ → Type 0
     keeps-item SentenceEnd items memory nests h = h
     keeps-item (Turn turning body) items memory nests h = keeps-remainder turning body items memory nests h
 
-module _ {Memory : Type 0} (doing : Doing Memory) (program : Program) (structured : IsStructured program) where
+module _ {Memory : Type 0} (doing : Doing Memory) (program : Program) (structured : IsStructuredControl program) where
   abbrev count : ℕ
   count = length program.paragraphs
 
@@ -245,7 +245,7 @@ module _ {Memory : Type 0} (doing : Doing Memory) (program : Program) (structure
       inside-on r n item more memory (Into entry exit items) items is (λ here k. k.1) (inside r n (item ∷ more) c)
   inside range number rest (falls r n next there passed c) = inside-falls r n passed (inside r n [] c) (rest_of program (suc n))
 
-module _ (told : FlowFacts) (program : Program) (structured : IsStructured program) where
+module _ (told : FlowFacts) (program : Program) (structured : IsStructuredControl program) where
   -- what the level of a paragraph performs
   pub later : (number : ℕ) (range : Range) → number < length program.paragraphs → IsRangeAt number range → (entry exit : ℕ) → IsCalled told program range entry exit →
       NamesLater (length program.paragraphs) number entry exit

@@ -12,7 +12,7 @@ use Rattle.cob_tree.specs.declared.program.Range as code
 use Rattle.control_flow_theory.specs.language.Control.{control_of}
 use Rattle.control_flow_theory.specs.language.Language as language
 use Rattle.control_flow_theory.specs.language.Language.{Picker, Range, Main, Stmt, Do, Choose, Loop, Perform, Go, GoDepending, NextSentence, ExitParagraph, ExitSection, ExitPerform, StopRun, Stmts, none, also, Arms, done, given, missing, Body, Nested, Performed, Paragraph}
-use Rattle.control_flow_theory.specs.language.Structured.{IsStructured}
+use Rattle.control_flow_theory.specs.language.Structured.{IsStructuredControl}
 use Rattle.control_flow_theory.specs.lowering.Completes.{sizes}
 use Rattle.control_flow_theory.specs.lowering.FlowFacts.{FlowFacts}
 use Rattle.control_flow_theory.specs.lowering.Lowered.{lowered, total}
@@ -212,7 +212,7 @@ module _ (program made : Program) (summary other : Summary) (well : IsWellMade p
   result : result_by plan (control_of program) naming ≡ control_of made
   result = first.result program made summary well flows split
 
-  structured : IsStructured (control_of made)
+  structured : IsStructuredControl (control_of made)
   structured = (joined.behave-alike program made summary well flows split).0
 
   flows_made : IsFaultFree made other

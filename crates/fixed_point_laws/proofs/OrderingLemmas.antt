@@ -3,7 +3,7 @@ use Rattle.std.proofs.Common.{◌≡◌, ◌<◌, ◌≤◌, ◌+◌, ◌||◌, 
 use Rattle.std.proofs.lemmas.Option.{slice_get_within}
 use Rattle.cob_tree.specs.declared.program.Range as tree
 use Rattle.control_flow_theory.specs.language.Language.{Paragraph, Program, Range, Main, Part, Perform}
-use Rattle.control_flow_theory.specs.language.Structured.{FirstStops, IsStructured}
+use Rattle.control_flow_theory.specs.language.Structured.{FirstStops, IsStructuredControl}
 use Rattle.control_flow_theory.specs.language.Items.{Do}
 use Rattle.control_flow_theory.specs.lowering.FlowFacts.{FlowFacts, IsSource}
 use Rattle.control_flow_theory.specs.lowering.flow.Entered.{FreelyComes, IsEntered, main, performed}
@@ -132,7 +132,7 @@ paragraphs-rise more number range next here there =
 
 -- ---- a structured program
 
-module _ (told : FlowFacts) (program : Program) (source : IsSource told program) (some : GivesSome told) (structured : IsStructured program) where
+module _ (told : FlowFacts) (program : Program) (source : IsSource told program) (some : GivesSome told) (structured : IsStructuredControl program) where
   calls-there : (range : Range) (base : tree.Range) (point after : Point) (entry exit : ℕ) → range_of range ≡ base → Comes told.never_first program base point → next told.never_first program point ≡ Calls entry exit after → IsCalled told program range entry exit
   calls-there range base point after entry exit same c e =
       let first = next-calls told.never_first program point.paragraph point.rest entry exit after e in
@@ -186,7 +186,7 @@ module _ (told : FlowFacts) (program : Program) (source : IsSource told program)
   some-there [] h = absurd h
   some-there (paragraph ∷ paragraphs) h = (length paragraphs, refl)
 
-  module _ (fine : theory.IsFaulty told program → ⊥) (summary : Summary) (is : IsSummary told.never_first program summary)
+  module _ (fine : theory.HasFaultyRun told program → ⊥) (summary : Summary) (is : IsSummary told.never_first program summary)
       (all : (number : ℕ) → 1 ≤ number → number < length program.paragraphs → IsEntered told program (Part number number)) where
     abbrev more : ℕ
     more = (some-there program.paragraphs structured.stops).0

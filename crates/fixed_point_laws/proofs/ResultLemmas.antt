@@ -3,7 +3,7 @@ use Rattle.std.proofs.Common.{◌≡◌, ◌≤◌, ℕ, zero, suc, Bool, true, 
 use Rattle.std.specs.Prelude.{slice_set}
 use Rattle.cob_tree.specs.declared.program.Program.{Program}
 use Rattle.control_flow_theory.specs.language.Control.{control_of}
-use Rattle.control_flow_theory.specs.language.Structured.{IsStructured}
+use Rattle.control_flow_theory.specs.language.Structured.{IsStructuredControl}
 use Rattle.cobol_print.specs.Program.{printed}
 use Rattle.cobol_read.specs.Reading.{Reads}
 use Rattle.out_names.specs.Ordering.{first_ready, order_from, order_of}
@@ -52,7 +52,7 @@ module _ (read_back : SplitProgramsReadBack) (bytes : List ℕ) (program made : 
       let four : length calls ≡ length summary.ranges = map-size (λ (facts : RangeFacts). facts.calls) summary.ranges in
       omega (arith, few, one, two, three, four)
 
-  structured : IsStructured (control_of made)
+  structured : IsStructuredControl (control_of made)
   structured = (joined.behave-alike program made summary well flows split).0
 
   pub fixed : IsFixed made

@@ -10,7 +10,7 @@ use Rattle.control_flow_theory.specs.language.Control.{control_of}
 use Rattle.control_flow_theory.specs.language.Language as language
 use Rattle.control_flow_theory.specs.language.Language.{Range, Main}
 use Rattle.control_flow_theory.specs.language.Own.{OwnParagraphs}
-use Rattle.control_flow_theory.specs.language.Structured.{IsStructured}
+use Rattle.control_flow_theory.specs.language.Structured.{IsStructuredControl}
 use Rattle.control_flow_theory.specs.graph_rules.Reduced.{Graph, Graphs}
 use Rattle.control_flow_theory.specs.semantics.Graph.{tree}
 use Rattle.control_flow_theory.specs.structuring.Closes.{closed_graph}
@@ -74,7 +74,7 @@ module _ (program made twice : Program) (summary other : Summary) (well : IsWell
   abbrev naming : Naming
   naming = first.naming program made summary well flows split
 
-  structured : IsStructured (control_of made)
+  structured : IsStructuredControl (control_of made)
   structured = (joined.behave-alike program made summary well flows split).0
 
   flows_made : IsFaultFree made other

@@ -1,7 +1,7 @@
 -- Which paragraphs of a result flow paths enter.
 use Rattle.std.specs.Prelude.{ℕ, ◌≡◌, ◌≤◌, ◌<◌, true, length, Some, slice_get}
 use Rattle.control_flow_theory.specs.language.Language.{Program, Part}
-use Rattle.control_flow_theory.specs.language.Structured.{StmtsNest, IsStructured}
+use Rattle.control_flow_theory.specs.language.Structured.{StmtsNest, IsStructuredControl}
 use Rattle.control_flow_theory.specs.lowering.FlowFacts.{FlowFacts, IsSource}
 use Rattle.control_flow_theory.specs.lowering.flow.Entered.{IsEntered}
 use Rattle.control_flow_theory.specs.rendering.Rendering.{Naming, Procedure}
@@ -23,7 +23,7 @@ pub record IsFirstWritten (plan : Plan) (program : Program) (naming : Naming) (t
       slice_get (procedures_by plan program) number ≡ Some procedure →
       StmtsNest (λ entry exit. stands_in (procedures_by plan program) entry exit ≡ true)
       procedure.body
-  pub structured : IsStructured (result_by plan program naming)
+  pub structured : IsStructuredControl (result_by plan program naming)
   pub result : IsSource told (result_by plan program naming)
   pub names : NamesAlike naming plan.told told
 

@@ -2,7 +2,7 @@
 use Rattle.cob_tree.specs.declared.program.Program.{Program}
 use Rattle.control_flow_theory.specs.language.Control.{control_of}
 use Rattle.control_flow_theory.specs.language.OwnItems.{NamesOwnItems}
-use Rattle.control_flow_theory.specs.language.Structured.{IsStructured}
+use Rattle.control_flow_theory.specs.language.Structured.{IsStructuredControl}
 use Rattle.cobol_theory.specs.cobol_parts.Named.{NamesOwnParagraphs}
 use Rattle.program_points.specs.numbering.Kind.{never_first_of}
 use Rattle.program_points.specs.paths.Flow.{IsFaulty}
@@ -12,5 +12,5 @@ use Rattle.program_points.specs.paths.Flow.{IsFaulty}
 abbrev pub StructuredProgramsAreFaultless : Type 0
 StructuredProgramsAreFaultless =
     (program : Program) → NamesOwnItems program → NamesOwnParagraphs program →
-    IsStructured (control_of program) →
+    IsStructuredControl (control_of program) →
     IsFaulty (never_first_of program.files) (control_of program) → ⊥

@@ -2,10 +2,10 @@
 use Rattle.std.specs.Prelude.{ℕ, suc, ◌≡◌, ◌≤◌, ◌<◌, List, ◌∷◌, length, Some, slice_get}
 use Rattle.cob_tree.specs.declared.program.Range as tree
 use Rattle.control_flow_theory.specs.language.Language.{Program, Range, Main, Part}
-use Rattle.control_flow_theory.specs.language.Structured.{IsStructured}
+use Rattle.control_flow_theory.specs.language.Structured.{IsStructuredControl}
 use Rattle.control_flow_theory.specs.lowering.FlowFacts.{FlowFacts, IsSource}
 use Rattle.control_flow_theory.specs.lowering.flow.Entered.{IsEntered}
-use Rattle.control_flow_theory.specs.lowering.flow.Paths.{IsFaulty}
+use Rattle.control_flow_theory.specs.lowering.flow.Paths.{HasFaultyRun}
 use Rattle.control_flow_theory.specs.main_theorem.CallsReached.{GivesSome}
 use Rattle.pending_returns.specs.declared.facts.Summary.{Summary}
 use Rattle.pending_returns.specs.Summary.{IsSummary}
@@ -28,8 +28,9 @@ pub record GoesByPlaces (program : Program) (order : List tree.Range) : Type 0 w
 abbrev pub PlansGoByPlaces : Type 0
 PlansGoByPlaces =
     (told : FlowFacts) (program : Program) (summary : Summary) (returning : List (List ℕ))
-    (order : List tree.Range) → IsSource told program → GivesSome told → IsStructured program →
-    (IsFaulty told program → ⊥) → IsSummary told.never_first program summary →
+    (order : List tree.Range) → IsSource told program → GivesSome told →
+    IsStructuredControl program →
+    (HasFaultyRun told program → ⊥) → IsSummary told.never_first program summary →
     IsPlanOf summary.ranges returning order →
     ((number : ℕ) → 1 ≤ number → number < length program.paragraphs →
     IsEntered told program (Part number number)) → GoesByPlaces program order

@@ -1,6 +1,7 @@
 -- The fixed point: what a program that is read is split into isn't faulty, passes no limit, and is
 -- split into itself.
 use Rattle.std.specs.Prelude.{ℕ, ◌≡◌, ◌≤◌, List, length}
+use Rattle.cob_base.specs.Limit.{max_ranges}
 use Rattle.cob_base.specs.declared.limit.Limit.{Limit}
 use Rattle.cob_tree.specs.declared.fault.SplitFault.TheVariants as fault
 use Rattle.cob_tree.specs.declared.program.Program.{Program}
@@ -9,7 +10,7 @@ use Rattle.cobol_print.specs.Program.{printed}
 use Rattle.cobol_read.specs.Reading.{Reads}
 use Rattle.program_points.specs.numbering.Kind.{never_first_of}
 use Rattle.program_points.specs.paths.Flow.{IsFaulty}
-use Rattle.pending_returns.specs.Summary.{IsPast, IsSummary}
+use Rattle.pending_returns.specs.Summary.{IsRangeLimitOrNoMemory, IsSummary}
 use Rattle.pending_returns.specs.declared.facts.Summary.{Summary}
 use Rattle.procedure_split.specs.Counting.{none_added}
 use Rattle.procedure_split.specs.Splitting.{IsSplit, IsSplitFault, IsSplitWith}
@@ -24,7 +25,7 @@ pub record IsFixed (made : Program) : Type 0 where
   -- no flow path comes to a fault
   pub faultless : IsFaulty (never_first_of made.files) (control_of made) → ⊥
   -- it passes no limit on the ranges that it names
-  pub ranges : (limit : Limit) → IsPast made (fault.Limit limit) → ⊥
+  pub ranges : (limit : Limit) → IsRangeLimitOrNoMemory made (fault.Limit limit) → ⊥
   -- it passes no limit where it is split: on labels and statements, or on nesting
   pub within : (summary : Summary) (limit : Limit) →
       IsSummary (never_first_of made.files) (control_of made) summary →
@@ -38,5 +39,5 @@ pub record IsFixed (made : Program) : Type 0 where
 abbrev pub ResultsAreFixed : Type 0
 ResultsAreFixed =
     (bytes : List ℕ) (program made : Program) (summary : Summary) → Reads bytes program →
-    IsFaultFree program summary → length summary.ranges ≤ 5000 → IsSplit program summary made →
-    IsWithinLimits made → IsFixed made
+    IsFaultFree program summary → length summary.ranges ≤ max_ranges →
+    IsSplit program summary made → IsWithinLimits made → IsFixed made

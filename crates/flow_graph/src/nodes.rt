@@ -9,7 +9,7 @@ ghost use Rattle.flow_graph.specs.label_trees.Node.{IsWhole};
 ghost use Rattle.flow_graph.specs.Counts.{IsLoweredWithin};
 ghost use Rattle.flow_graph.specs.Reaching.{IsRangeIn};
 
-use crate::reaching::reach_from;
+use crate::reaching::{RangeEntry, reach_from};
 use branch_tree::{Graph, Node};
 use cob_base::NoMemory;
 use cob_tree::Range;
@@ -51,16 +51,11 @@ pub fn lower_within(
 {
     let place = telling.layout.place_of(first_of(range));
     let mut nodes = Vec::new(alloc);
-    match reach_from(
-        alloc,
-        reach,
-        &mut nodes,
-        spots,
-        place * 3,
+    let begin = RangeEntry {
         range,
-        telling,
-        most,
-    ) {
+        entry: place * 3,
+    };
+    match reach_from(alloc, reach, &mut nodes, spots, begin, telling, most) {
         Ok(true) => {}
         Ok(false) => {
             drop(nodes);

@@ -97,6 +97,13 @@ fn visit_node(
     }
 }
 
+/// A range, and the label at which it begins.
+#[derive(Clone, Copy)]
+pub struct RangeEntry {
+    pub range: Range,
+    pub entry: u32,
+}
+
 /// Sets `reach` to the labels that are reached in the range from this one, and adds their nodes, in
 /// the order in which it comes to them; true then. As soon as they have more than so many labels
 /// and statements it gives up: false then.
@@ -105,37 +112,36 @@ pub fn reach_from(
     reach: &mut Reach,
     nodes: &mut Vec<Node>,
     spots: &[Continuation<'_>],
-    entry: u32,
-    range: Range,
+    begin: RangeEntry,
     telling: &LoweringContext<'_>,
     most: u64,
 ) -> Result<bool, NoMemory>
     requires marked { IsMarked reach.old.places.items reach.old.marks.items }
     requires whole { IsWhole telling.now spots.now }
     requires size { length reach.old.marks.items ≡ 3 * length spots.now }
-    requires entry { Begins telling.now spots.now range entry }
-    requires range { (program : Program) × IsRangeIn telling.now spots.now range program }
+    requires entry { Begins telling.now spots.now begin.range begin.entry }
+    requires range { (program : Program) × IsRangeIn telling.now spots.now begin.range program }
     requires none { nodes.old.items ≡ [] }
     ensures reach { IfOk result (λ all. all ≡ true →
-        AreReachedIn telling.now spots.now range reach.new.places.items) }
+        AreReachedIn telling.now spots.now begin.range reach.new.places.items) }
     ensures made { IfOk result (λ all. all ≡ true →
-        AreMade telling.now spots.now range reach.new.places.items nodes.new.items) }
+        AreMade telling.now spots.now begin.range reach.new.places.items nodes.new.items) }
     ensures within { IfOk result (λ all. all ≡ true →
-        CountsWithin telling.now spots.now range reach.new.places.items most) }
+        CountsWithin telling.now spots.now begin.range reach.new.places.items most) }
     ensures larger { IfOk result (λ all. all ≡ false →
-        IsLargerIn telling.now spots.now range most) }
+        IsLargerIn telling.now spots.now begin.range most) }
     ensures marked { IsMarked reach.new.places.items reach.new.marks.items }
     ensures size { length reach.new.marks.items ≡ length reach.old.marks.items }
 {
     reach.clear();
-    reach.visit(entry)?;
+    reach.visit(begin.entry)?;
     let mut count = 0u64;
     for at in 0..reach.marks.len() {
         if at >= reach.places.len() {
             return Ok(true);
         }
         let label = reach.places[at];
-        let size = visit_node(alloc, reach, nodes, spots, label, range, telling)?;
+        let size = visit_node(alloc, reach, nodes, spots, label, begin.range, telling)?;
         count = count.saturating_add(size).saturating_add(1);
         if count > most {
             return Ok(false);

@@ -10,6 +10,8 @@ mod conditions;
 #[cfg(test)]
 mod copying;
 #[cfg(test)]
+mod errors;
+#[cfg(test)]
 mod lines;
 #[cfg(test)]
 mod numbers;

@@ -13,18 +13,18 @@ use Rattle.program_points.specs.perform_ranges.Named.{AreRangesOf}
 use Rattle.program_points.specs.table_building.Numbering.{Counts, HasTable}
 use Rattle.program_points.proofs.table_building_lemmas.Sections.{seen-length}
 use Rattle.pending_returns.specs.declared.facts.Summary.{Summary}
-use Rattle.pending_returns.specs.Summary.{IsSummary, IsLimit, IsWithin, IsPast}
+use Rattle.pending_returns.specs.Summary.{IsSummary, IsLimit, IsWithin, IsRangeLimitOrNoMemory}
 use Rattle.pending_returns.specs.Tabled.{RangesRise, SummarisesTable}
 
-pub past-limit : (program : tree.Program) (ranges : List Range) (counted : ℕ) (refused : SplitFault) → AreRangesOf program ranges → counted ≡ length ranges → max_ranges < counted → IsLimit counted refused → IsPast program refused
+pub past-limit : (program : tree.Program) (ranges : List Range) (counted : ℕ) (refused : SplitFault) → AreRangesOf program ranges → counted ≡ length ranges → max_ranges < counted → IsLimit counted refused → IsRangeLimitOrNoMemory program refused
 past-limit program ranges counted (fault.Limit limit) are size lt is = (counted, (ranges, are, sym size), lt, is)
 past-limit program ranges counted fault.NoMemory are size lt is = absurd is
 
 pub within-limit : (program : tree.Program) (ranges : List Range) (counted : ℕ) → AreRangesOf program ranges → counted ≡ length ranges → counted ≤ max_ranges → IsWithin program
 within-limit program ranges counted are size le = (counted, (ranges, are, sym size), le)
 
-pub out-of-memory : (program : tree.Program) (refused : SplitFault) → refused ≡ fault.NoMemory → IsPast program refused
-out-of-memory program refused is = subst (λ (f : SplitFault). IsPast program f) (sym is) tt
+pub out-of-memory : (program : tree.Program) (refused : SplitFault) → refused ≡ fault.NoMemory → IsRangeLimitOrNoMemory program refused
+out-of-memory program refused is = subst (λ (f : SplitFault). IsRangeLimitOrNoMemory program f) (sym is) tt
 
 -- the ranges of the table are main and those that are named
 pub main-first : (program : tree.Program) (table : Table) (ranges : List Range) → table.ranges ≡ ranges → AreRangesOf program ranges → slice_get table.ranges 0 ≡ Some main_range

@@ -83,8 +83,8 @@ IsLimit counted (fault.Limit limit) = limit ≡ limit_at counted
 IsLimit counted fault.NoMemory = ⊥
 
 -- out of memory, or the limit, where it is passed
-abbrev pub IsPast : tree.Program → SplitFault → Type 0
-IsPast program (fault.Limit limit) =
+abbrev pub IsRangeLimitOrNoMemory : tree.Program → SplitFault → Type 0
+IsRangeLimitOrNoMemory program (fault.Limit limit) =
     (counted : ℕ) × NamesSoMany program counted × (max_ranges < counted)
     × (limit ≡ limit_at counted)
-IsPast program fault.NoMemory = Unit {0}
+IsRangeLimitOrNoMemory program fault.NoMemory = Unit {0}

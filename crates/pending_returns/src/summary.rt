@@ -6,7 +6,7 @@ ghost use Rattle.control_flow_theory.specs.language.Control.{control_of};
 ghost use Rattle.program_points.specs.paths.Flow.{main_range};
 ghost use Rattle.program_points.specs.numbering.Kind.{never_first_of};
 ghost use Rattle.program_points.specs.point_table.Table.{IsTidy};
-ghost use Rattle.pending_returns.specs.Summary.{IsSummary, IsLimit, IsWithin, IsPast};
+ghost use Rattle.pending_returns.specs.Summary.{IsSummary, IsLimit, IsWithin, IsRangeLimitOrNoMemory};
 ghost use Rattle.pending_returns.specs.Tabled.{RangesRise, SummarisesTable};
 
 use crate::calling::transitive_callees;
@@ -59,7 +59,7 @@ pub fn summarise(alloc: Global, program: &Program) -> Result<Summary, SplitFault
         (control_of program.now) summary) }
     ensures few { IfOk result (λ summary. length summary.ranges ≤ max_ranges) }
     ensures limit { MatchResult result (λ summary. IsWithin program.now)
-        (λ fault. IsPast program.now fault) }
+        (λ fault. IsRangeLimitOrNoMemory program.now fault) }
 {
     let ranges = ranges_of(alloc, program)?;
     if ranges.len() > MAX_RANGES {

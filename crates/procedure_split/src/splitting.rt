@@ -21,20 +21,9 @@ pub fn split(alloc: Global, program: &Program, summary: &Summary) -> Result<Spli
         (IsSplitFault program.now summary.now) }
 {
     let plan = plan_of(alloc, summary)?;
-    match lower_ranges(alloc, program, &plan) {
-        Ok(graphs) => match shape_all(alloc, graphs) {
-            Ok(closed) => {
-                let mut closed = closed;
-                let order = plan.order.as_slice();
-                let made = write_program(alloc, program, order, closed.as_mut_slice());
-                drop(closed);
-                match made {
-                    Ok(made) => Ok(made),
-                    Err(_) => Err(SplitFault::NoMemory),
-                }
-            }
-            Err(fault) => Err(fault),
-        },
-        Err(fault) => Err(fault),
-    }
+    let graphs = lower_ranges(alloc, program, &plan)?;
+    let mut closed = shape_all(alloc, graphs)?;
+    let order = plan.order.as_slice();
+    let made = write_program(alloc, program, order, closed.as_mut_slice())?;
+    Ok(made)
 }

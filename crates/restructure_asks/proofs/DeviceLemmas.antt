@@ -2,7 +2,6 @@
 use Rattle.std.proofs.Common.{◌≡◌, ◌∙◌, sym, subst, refl, ℕ, List, Option, Some, ◌⊎◌, inl, inr}
 use Rattle.cob_base.specs.Source.{SourceCall}
 use Rattle.cob_base.specs.Sink.{SinkCall}
-use Rattle.file_model.specs.operations.Seen.{Seen}
 use Rattle.cobol_run.specs.declared.machine.Ending.TheVariants as ending
 use Rattle.cobol_run.specs.declared.running.Ran.TheVariants as ran
 use Rattle.restructure_core.specs.declared.fault.Refused.{Refused}
@@ -11,6 +10,7 @@ use Rattle.restructure_core.specs.Fault.{of_read_refusal}
 use Rattle.restructure_core.specs.declared.run.Came.{Came}
 use Rattle.restructure_core.specs.declared.run.Came.TheVariants as came
 use Rattle.restructure_core.specs.run.Answers.{CameFalls}
+use Rattle.restructure_core.specs.run.Bench.{BenchCall}
 use Rattle.restructure_asks.specs.declared.ask.Ask.{Ask}
 use Rattle.restructure_asks.specs.declared.refusal.Refusal.{Refusal}
 use Rattle.restructure_asks.specs.declared.refusal.Refusal.TheVariants as refusal
@@ -67,25 +67,25 @@ unread_never (refused.Flow program trail) notes t = let x : refusal.Refused (ref
 unread_never (refused.Limit limit) notes t = let x : refusal.Refused (refused.Limit limit) ≡ refusal.Device t.name = t.is in cc
 unread_never refused.NoMemory notes t = let x : refusal.NoMemory ≡ refusal.Device t.name = t.is in cc
 
-pub device_told : (steps : ℕ) (c : Came) (notes : SinkCall) (answer : Status) (left left_now : ℕ) (old new : List Seen) → TellsCame (refusal_of steps c) notes answer → CameFalls c left left_now old new → answer ≡ status.DeviceFault → IsDeviceTold notes left left_now old new
-device_told steps (came.Ran program (ran.DeviceFault name)) notes answer left left_now old new tells falls is =
+pub device_told : (steps : ℕ) (c : Came) (notes : SinkCall) (answer : Status) (bench : BenchCall) → TellsCame (refusal_of steps c) notes answer → CameFalls c bench → answer ≡ status.DeviceFault → IsDeviceTold notes bench
+device_told steps (came.Ran program (ran.DeviceFault name)) notes answer bench tells falls is =
     let t : Told (refusal.Device name) notes = told_noted (refusal.Device name) notes answer is tells in
     record { name = name; fell = falls; noted = subst (λ r. Takes (line_of r) notes) (sym t.is) t.noted }
-device_told steps (came.Ran program (ran.Ended ending.Stopped)) notes answer left left_now old new tells falls is =
+device_told steps (came.Ran program (ran.Ended ending.Stopped)) notes answer bench tells falls is =
     absurd (let x : status.Done ≡ status.DeviceFault = sym tells.0 ∙ is in cc)
-device_told steps (came.Ran program (ran.Ended (ending.Abended abend))) notes answer left left_now old new tells falls is =
+device_told steps (came.Ran program (ran.Ended (ending.Abended abend))) notes answer bench tells falls is =
     absurd (let x : refusal.Abend abend ≡ refusal.Device (told_noted (refusal.Abend abend) notes answer is tells).name = (told_noted (refusal.Abend abend) notes answer is tells).is in cc)
-device_told steps (came.Ran program (ran.Ended (ending.Faulted fault))) notes answer left left_now old new tells falls is =
+device_told steps (came.Ran program (ran.Ended (ending.Faulted fault))) notes answer bench tells falls is =
     absurd (let x : refusal.Fault program fault ≡ refusal.Device (told_noted (refusal.Fault program fault) notes answer is tells).name = (told_noted (refusal.Fault program fault) notes answer is tells).is in cc)
-device_told steps (came.Ran program ran.Budget) notes answer left left_now old new tells falls is =
+device_told steps (came.Ran program ran.Budget) notes answer bench tells falls is =
     absurd (let x : refusal.Budget steps ≡ refusal.Device (told_noted (refusal.Budget steps) notes answer is tells).name = (told_noted (refusal.Budget steps) notes answer is tells).is in cc)
-device_told steps (came.Ran program ran.WriteFault) notes answer left left_now old new tells falls is =
+device_told steps (came.Ran program ran.WriteFault) notes answer bench tells falls is =
     absurd (let x : status.WriteFault ≡ status.DeviceFault = sym tells.0 ∙ is in cc)
-device_told steps (came.Ran program ran.NoMemory) notes answer left left_now old new tells falls is =
+device_told steps (came.Ran program ran.NoMemory) notes answer bench tells falls is =
     absurd (let x : refusal.NoMemory ≡ refusal.Device (told_noted refusal.NoMemory notes answer is tells).name = (told_noted refusal.NoMemory notes answer is tells).is in cc)
-device_told steps (came.Refused why) notes answer left left_now old new tells falls is =
+device_told steps (came.Refused why) notes answer bench tells falls is =
     absurd (unread_never (of_read_refusal why) notes (told (unread why) notes answer is tells))
-device_told steps came.NoMemory notes answer left left_now old new tells falls is =
+device_told steps came.NoMemory notes answer bench tells falls is =
     absurd (let x : refusal.NoMemory ≡ refusal.Device (told_noted refusal.NoMemory notes answer is tells).name = (told_noted refusal.NoMemory notes answer is tells).is in cc)
 
 -- other refusals and asks tell of none

@@ -1,8 +1,7 @@
 -- At most one end of a run over files is due, and what is due comes.
-use Rattle.std.proofs.Common.{◌≡◌, ℕ, List, take, Option, Some, None, refl, ap, sym, ◌∙◌, subst, inl, inr}
+use Rattle.std.proofs.Common.{◌≡◌, ℕ, List, Option, Some, None, refl, ap, sym, ◌∙◌, subst, inl, inr}
 use Rattle.cob_base.specs.Sink.{SinkCall}
 use Rattle.cob_tree.specs.declared.program.Program.{Program}
-use Rattle.file_model.specs.operations.Seen as desk
 use Rattle.control_flow_theory.specs.runs.Run.{Going}
 use Rattle.cobol_theory.specs.cobol_meaning.Runs.{Files}
 use Rattle.cobol_read.specs.Reading.{Reads}
@@ -22,6 +21,7 @@ use Rattle.cobol_read.specs.declared.refusal.ReadRefusal.TheVariants as rd
 use Rattle.restructure_core.specs.declared.run.Came.{Came}
 use Rattle.restructure_core.specs.declared.run.Came.TheVariants as came
 use Rattle.restructure_core.specs.run.Answers.{Comes, ComesOver}
+use Rattle.restructure_core.specs.run.Bench.{BenchCall, devices_before}
 use Rattle.restructure_asks.specs.declared.refusal.Refusal.{Refusal}
 use Rattle.restructure_asks.specs.declared.refusal.Refusal.TheVariants as refusal
 use Rattle.restructure_asks.specs.declared.status.Status.{Status}
@@ -114,13 +114,13 @@ module _ (steps : ℕ) (bytes : List ℕ) (files : Files) (due : Option Refusal)
   refused-told rd.NoMemory notes answer h g = noted-over refusal.NoMemory due notes answer (no-memory-over due) g
   refused-told (rd.Fault fault) notes answer h g = due-noted (refusal.Refused (refused.NotSubset fault)) notes answer h (inr (inl refl)) g
 
-  module _ (left left_now : ℕ) (old new : List desk.Seen) (tells : (program : Program) → Reads bytes program → TellFiles program (take left old) files) where
-    ends-in : (program : Program) (end : Ending) (out : SinkCall) → ComesOver bytes steps out left left_now old new (came.Ran program (ran.Ended end)) → EndsOnFiles bytes steps files program end
+  module _ (bench : BenchCall) (tells : (program : Program) → Reads bytes program → TellFiles program (devices_before bench) files) where
+    ends-in : (program : Program) (end : Ending) (out : SinkCall) → ComesOver bytes steps out bench (came.Ran program (ran.Ended end)) → EndsOnFiles bytes steps files program end
     ends-in program end out h =
-        let run = h.2.files files h.1 (tells program h.0) in
+        let run = h.2.0.files files h.1 (tells program h.0) in
         ((world_after program files steps).shelves, record { reads = h.0; stands = run.0.0 })
 
-    came-told : (c : Came) (out notes : SinkCall) (answer : Status) → Comes bytes steps out c → ComesOver bytes steps out left left_now old new c → TellsCame (refusal_of steps c) notes answer → IsOneOf (statuses_over due) answer
+    came-told : (c : Came) (out notes : SinkCall) (answer : Status) → Comes bytes steps out c → ComesOver bytes steps out bench c → TellsCame (refusal_of steps c) notes answer → IsOneOf (statuses_over due) answer
     came-told (came.Ran program (ran.Ended ending.Stopped)) out notes answer h o g =
         subst (IsOneOf (statuses_over due)) (sym g.0) (done-comes program (ends-in program ending.Stopped out o))
     came-told (came.Ran program (ran.Ended (ending.Abended abend))) out notes answer h o g =
@@ -128,7 +128,7 @@ module _ (steps : ℕ) (bytes : List ℕ) (files : Files) (due : Option Refusal)
     came-told (came.Ran program (ran.Ended (ending.Faulted fault))) out notes answer h o g =
         due-noted (refusal.Fault program fault) notes answer (ends-in program (ending.Faulted fault) out o) (inr (inl refl)) g
     came-told (came.Ran program ran.Budget) out notes answer h o g =
-        due-noted (refusal.Budget steps) notes answer (refl, (program, record { reads = o.0; stands = (o.2.files files o.1 (tells program o.0)).0.0 })) (inr (inl refl)) g
+        due-noted (refusal.Budget steps) notes answer (refl, (program, record { reads = o.0; stands = (o.2.0.files files o.1 (tells program o.0)).0.0 })) (inr (inl refl)) g
     came-told (came.Ran program (ran.DeviceFault name)) out notes answer h o g = noted-over (refusal.Device name) due notes answer (inl refl) g
     came-told (came.Ran program ran.WriteFault) out notes answer h o g =
         subst (IsOneOf (statuses_over due)) (sym g.0) (cut-comes steps bytes files program due h.0 is_due)
@@ -138,9 +138,9 @@ module _ (steps : ℕ) (bytes : List ℕ) (files : Files) (due : Option Refusal)
     came-told came.NoMemory out notes answer h o g = noted-over refusal.NoMemory due notes answer (no-memory-over due) g
 
 pub due-run-on-files : DueRunComesOnFiles
-due-run-on-files steps source out notes left left_now old new answer (inl h) bytes files due told tells is_due =
+due-run-on-files steps source out notes bench answer (inl h) bytes files due told tells is_due =
     let same : h.told.run.bytes ≡ bytes = sym (subst (λ t. Tells t h.told.run.bytes) told h.told.run.told) in
-    came-told steps bytes files due is_due left left_now old new tells h.told.came out notes answer
+    came-told steps bytes files due is_due bench tells h.told.came out notes answer
     (subst (λ b. Comes b steps out h.told.came) same h.told.run.comes)
-    (subst (λ b. ComesOver b steps out left left_now old new h.told.came) same h.over) h.told.told
-due-run-on-files steps source out notes left left_now old new answer (inr h) bytes files due told tells is_due = inr (unrun-comes due source out notes answer h.0)
+    (subst (λ b. ComesOver b steps out bench h.told.came) same h.over) h.told.told
+due-run-on-files steps source out notes bench answer (inr h) bytes files due told tells is_due = inr (unrun-comes due source out notes answer h.0)

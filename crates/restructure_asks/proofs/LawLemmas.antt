@@ -11,7 +11,7 @@ use Rattle.restructure_core.specs.declared.fault.Refused.{Refused}
 use Rattle.restructure_core.specs.declared.fault.Refused.TheVariants as refused
 use Rattle.restructure_core.specs.declared.pipeline.Done.{Done}
 use Rattle.program_points.specs.declared.paths.trail.Trail.{Trail}
-use Rattle.restructure_core.specs.Pipeline.{IsRestructured, IsFaultySource, IsAccepted, IsRefusedByTrail, HasCause}
+use Rattle.restructure_core.specs.Pipeline.{IsRestructured, IsFaultySource, IsRestructurable, IsRefusedByTrail, HasCause}
 use Rattle.restructure_core.proofs.OneAnswer.{Outcome, IsAlike, IsDueTo, alike, done-due, cause-due, comes-faulty, comes-done}
 use Rattle.restructure_asks.specs.declared.ask.Ask.{Ask}
 use Rattle.restructure_asks.specs.declared.ask.Ask.TheVariants.{Restructure, Report, Check, Run, Generate, Trial}
@@ -169,13 +169,13 @@ not-ok why h = cc
 same-refused : (one other : Refused) → ◌≡◌ {A = Outcome} (Err one) (Err other) → one ≡ other
 same-refused one other h = cc
 
-accepted-clear : (bytes : List ℕ) (why : Refused) → IsAccepted bytes → why ≢ refused.NoMemory → HasCause bytes why → ⊥
+accepted-clear : (bytes : List ℕ) (why : Refused) → IsRestructurable bytes → why ≢ refused.NoMemory → HasCause bytes why → ⊥
 accepted-clear bytes why is some h = elim (comes-done bytes (Err why) tt h is) [
   | inl ok ↦ not-ok why ok
   | inr none ↦ some (same-refused why refused.NoMemory none)
 ]
 
-accepted-never : (bytes : List ℕ) (r : Refusal) → IsAccepted bytes → IsRefusalOf bytes r → ⊥
+accepted-never : (bytes : List ℕ) (r : Refusal) → IsRestructurable bytes → IsRefusalOf bytes r → ⊥
 accepted-never bytes refusal.Usage h g = g
 accepted-never bytes (refusal.Refused why) h g = accepted-clear bytes why h g.0 g.1
 accepted-never bytes (refusal.Device name) h g = g

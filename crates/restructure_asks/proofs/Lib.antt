@@ -23,5 +23,7 @@ pub mod LawLemmas
 pub mod RunLawLemmas
 -- the same over files
 pub mod FilesLawLemmas
+-- what a run leaves of its bench, by its status
+pub mod BenchLawLemmas
 -- what was written is written again
 pub mod AgainLawLemmas

@@ -10,8 +10,8 @@ use Rattle.cob_base.specs.Limit.{max_source}
 use Rattle.cobol_read.specs.Limit.{past_source}
 use Rattle.restructure_core.specs.declared.run.Came.{Came}
 use Rattle.restructure_core.specs.declared.run.Came.TheVariants as came
-use Rattle.file_model.specs.operations.Seen.{Seen}
 use Rattle.restructure_core.specs.run.Answers.{Comes, ComesOver, IsWriteFault}
+use Rattle.restructure_core.specs.run.Bench.{BenchCall}
 use Rattle.restructure_asks.proofs.LengthLemmas.{short-read, short-either}
 use Rattle.restructure_asks.proofs.EndLemmas.{whole-read, long-read}
 use Rattle.restructure_asks.specs.declared.refusal.Refusal.{Refusal}
@@ -45,18 +45,18 @@ module _ (steps : ℕ) (source : SourceCall) (out : SinkCall) (text : List ℕ) 
   pub told-run : (c : Came) (notes : SinkCall) (answer : Status) → Comes text steps out c → TellsCame (refusal_of steps c) notes answer → (IsWriteFault c → Rose out.count out.count_now) → EndsOfRun steps source out notes answer
   told-run c notes answer h told fault = inl (record { came = c; run = was-run c h; told = told; fault = fault })
 
-  pub over-run : (c : Came) (notes : SinkCall) (answer : Status) (left left_now : ℕ) (old new : List Seen) → Comes text steps out c → ComesOver text steps out left left_now old new c → TellsCame (refusal_of steps c) notes answer → (IsWriteFault c → Rose out.count out.count_now) → EndsOfRunWithFiles steps source out notes left left_now old new answer
+  pub over-run : (c : Came) (notes : SinkCall) (answer : Status) (bench : BenchCall) → Comes text steps out c → ComesOver text steps out bench c → TellsCame (refusal_of steps c) notes answer → (IsWriteFault c → Rose out.count out.count_now) → EndsOfRunWithFiles steps source out notes bench answer
   unfolding run-of
-  over-run (came.Ran program ran) notes answer left left_now old new h over told fault =
+  over-run (came.Ran program ran) notes answer bench h over told fault =
       let c : Came = came.Ran program ran in
       let whole = whole-read read.bytes text read.front (short-read text program h.0) in
       inl (record {
         told = record { came = c; run = run-of c (subst (λ b. Comes b steps out c) whole h); told = told; fault = fault };
-        over = subst (λ b. ComesOver b steps out left left_now old new c) whole over;
+        over = subst (λ b. ComesOver b steps out bench c) whole over;
       })
-  over-run (came.Refused why) notes answer left left_now old new h over told fault =
+  over-run (came.Refused why) notes answer bench h over told fault =
       inl (record { told = record { came = came.Refused why; run = was-run (came.Refused why) h; told = told; fault = fault }; over = over })
-  over-run came.NoMemory notes answer left left_now old new h over told fault =
+  over-run came.NoMemory notes answer bench h over told fault =
       inl (record { told = record { came = came.NoMemory; run = was-run came.NoMemory h; told = told; fault = fault }; over = over })
 
 -- a source that failed, or for which memory was wanted, wasn't run

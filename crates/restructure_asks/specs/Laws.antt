@@ -1,16 +1,20 @@
 -- What follows of how a call ends.
-use Rattle.std.specs.Prelude.{ℕ, ◌≡◌, ◌≤◌, ◌↔◌, ◌⊎◌, List, [], ◌∷◌, length, take, Option, Some, None, Ok, Err, codes}
+use Rattle.std.specs.Prelude.{ℕ, ◌≡◌, ◌≤◌, ◌↔◌, ◌⊎◌, List, [], ◌∷◌, ◌++◌, length, Option, Some, None, Ok, Err, codes}
 use Rattle.cob_base.specs.Source.{SourceCall}
 use Rattle.cob_base.specs.Sink.{SinkCall}
 use Rattle.cob_tree.specs.declared.program.Program.{Program}
 use Rattle.program_points.specs.declared.paths.trail.Trail.{Trail}
-use Rattle.file_model.specs.operations.Seen.{Seen}
+use Rattle.file_model.specs.World.{World}
+use Rattle.file_model.specs.operations.Calls.{addresses_of}
+use Rattle.file_model.specs.operations.Falling.{LeftOf, is_used}
+use Rattle.file_model.specs.operations.Shutting.{LeavesFiles}
 use Rattle.cobol_theory.specs.cobol_meaning.Runs.{Files}
 use Rattle.cobol_run.specs.Over.{TellFiles}
 use Rattle.cob_base.specs.Limit.{max_source}
 use Rattle.cobol_read.specs.Reading.{Reads}
 use Rattle.restructure_core.specs.declared.fault.Refused.TheVariants as refused
-use Rattle.restructure_core.specs.Pipeline.{IsAccepted, IsFaultySource, IsResultText}
+use Rattle.restructure_core.specs.Pipeline.{IsRestructurable, IsFaultySource, IsResultText}
+use Rattle.restructure_core.specs.run.Bench.{BenchCall, StaysAsWas, devices_after, devices_before}
 use Rattle.restructure_asks.specs.declared.ask.Ask.{Ask}
 use Rattle.restructure_asks.specs.declared.ask.Ask.TheVariants.{Restructure, Report, Check, Run, Generate, Trial}
 use Rattle.restructure_asks.specs.declared.refusal.Refusal.{Refusal}
@@ -18,13 +22,13 @@ use Rattle.restructure_asks.specs.declared.refusal.Refusal.TheVariants as refusa
 use Rattle.restructure_asks.specs.declared.status.Status.{Status}
 use Rattle.restructure_asks.specs.declared.status.Status.TheVariants as status
 use Rattle.restructure_asks.specs.Ask.{ask_of, number_of, program_number, reads}
-use Rattle.restructure_asks.specs.Reading.{left_after}
+use Rattle.restructure_asks.specs.Reading.{Tells, left_after}
 use Rattle.restructure_asks.specs.Status.{IsOneOf}
-use Rattle.restructure_asks.specs.Refusal.{refused_status, status_of}
+use Rattle.restructure_asks.specs.Refusal.{line_of, refused_status, status_of}
 use Rattle.restructure_asks.specs.Answer.{Answer, IsDue}
 use Rattle.restructure_asks.specs.Running.{IsRunDue, IsRunDueOnFiles}
 use Rattle.restructure_asks.specs.Tool.{Ends, EndsWithFiles}
-use Rattle.cob_base.specs.giving.Giving.{Gains}
+use Rattle.cob_base.specs.giving.Giving.{Gains, Takes}
 
 -- these are the words of the ask
 abbrev pub AreWordsOf : Ask → List (List ℕ) → Type 0
@@ -85,7 +89,7 @@ abbrev pub AcceptedSourceIsDone : Type 0
 AcceptedSourceIsDone =
     (ask : Ask) (source : SourceCall) (out notes : SinkCall) (answer : Status) → IsOfSource ask →
     Ends (Some ask) source out notes answer →
-    (bytes : List ℕ) → source.told ≡ Some bytes → IsAccepted bytes → IsOneOf
+    (bytes : List ℕ) → source.told ≡ Some bytes → IsRestructurable bytes → IsOneOf
     (status.Done ∷ status.WriteFault ∷ status.ReadFault ∷ status.NoMemory ∷ []) answer
 
 -- where a source tells the bytes of a program some flow path of which comes to a fault, such a call
@@ -142,12 +146,50 @@ statuses_over due = status.DeviceFault ∷ statuses_of_run due
 -- ends as the run over these files does, or with a fault of the outside or out of memory
 abbrev pub DueRunComesOnFiles : Type 0
 DueRunComesOnFiles =
-    (steps : ℕ) (source : SourceCall) (out notes : SinkCall) (left left_now : ℕ)
-    (old new : List Seen) (answer : Status) →
-    EndsWithFiles (Some (Run steps)) source out notes left left_now old new answer →
+    (steps : ℕ) (source : SourceCall) (out notes : SinkCall) (bench : BenchCall)
+    (answer : Status) → EndsWithFiles (Some (Run steps)) source out notes bench answer →
     (bytes : List ℕ) (files : Files) (due : Option Refusal) → source.told ≡ Some bytes →
-    ((program : Program) → Reads bytes program → TellFiles program (take left old) files) →
+    ((program : Program) → Reads bytes program →
+    TellFiles program (devices_before bench) files) →
     IsRunDueOnFiles steps bytes files due → IsOneOf (statuses_over due) answer
+
+-- the devices that failed in a run, the first of them last, by its status: none, or first the one
+-- whose line went to the notes; where the sink failed or memory ran out some may have
+abbrev pub FailedAt : Status → SinkCall → List (List ℕ) → Type 0
+FailedAt status.DeviceFault notes gone = (name : List ℕ) × (later : List (List ℕ))
+    × (gone ≡ later ++ name ∷ []) × Takes (line_of (refusal.Device name)) notes
+FailedAt status.WriteFault notes gone = Unit {0}
+FailedAt status.NoMemory notes gone = Unit {0}
+FailedAt _ notes gone = gone ≡ []
+
+-- what a run leaves of the bench, at this status
+pub record LeavesBench (source : SourceCall) (notes : SinkCall) (bench : BenchCall)
+    (answer : Status) : Type 0 where
+  pub bytes : List ℕ
+  -- these are the bytes, where the source tells them
+  pub told : Tells source.told bytes
+  pub program : Program
+  -- they are this program, which was run
+  pub reads : Reads bytes program
+  -- the devices that failed
+  pub gone : List (List ℕ)
+  -- which they are, by the status
+  pub failed : FailedAt answer notes gone
+  -- each of them is behind the bench and its count of failures rose; the others are on the bench in
+  -- their order, and of these at most files changed, of the first of each name that is used
+  pub left : LeftOf (is_used (addresses_of program.files)) gone
+      bench.left bench.left_now bench.old bench.new
+  -- where the devices that the program uses told their files, those that are left have the files of
+  -- some world, and what is open in it is closed on them
+  pub closed : (files : Files) → TellFiles program (devices_before bench) files →
+      (world : World) × LeavesFiles (addresses_of program.files) gone (devices_after bench) world
+
+-- at each status of a call to run the bench is as it was, where nothing ran, or what a run leaves
+abbrev pub BenchIsLeft : Type 0
+BenchIsLeft =
+    (steps : ℕ) (source : SourceCall) (out notes : SinkCall) (bench : BenchCall)
+    (answer : Status) → EndsWithFiles (Some (Run steps)) source out notes bench answer →
+    StaysAsWas bench ⊎ LeavesBench source notes bench answer
 
 -- a call without an ask ends with USAGE or out of memory
 abbrev pub UsageComes : Type 0

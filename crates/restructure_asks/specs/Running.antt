@@ -4,7 +4,6 @@ use Rattle.cob_base.specs.Faults.{Rose}
 use Rattle.cob_base.specs.Source.{SourceCall}
 use Rattle.cob_base.specs.Sink.{SinkCall}
 use Rattle.cob_tree.specs.declared.program.Program.{Program}
-use Rattle.file_model.specs.operations.Seen.{Seen}
 use Rattle.control_flow_theory.specs.runs.Run.{Going, Over}
 use Rattle.control_flow_theory.specs.semantics.Outcome.{Standing}
 use Rattle.cobol_theory.specs.cobol_meaning.Runs.{Files, source_run}
@@ -22,7 +21,8 @@ use Rattle.restructure_core.specs.Pipeline.{IsUnread}
 use Rattle.restructure_core.specs.Fault.{of_read_refusal}
 use Rattle.restructure_core.specs.declared.run.Came.{Came}
 use Rattle.restructure_core.specs.declared.run.Came.TheVariants as came
-use Rattle.restructure_core.specs.run.Answers.{Comes, ComesOver, IsWriteFault, StaysAsWas}
+use Rattle.restructure_core.specs.run.Answers.{Comes, ComesOver, IsWriteFault}
+use Rattle.restructure_core.specs.run.Bench.{BenchCall, StaysAsWas}
 use Rattle.restructure_asks.specs.declared.refusal.Refusal.{Refusal}
 use Rattle.restructure_asks.specs.declared.refusal.Refusal.TheVariants as refusals
 use Rattle.restructure_asks.specs.declared.status.Status.{Status}
@@ -160,25 +160,24 @@ EndsOfRun steps source out notes answer =
     IsRunTold steps source out notes answer ⊎ IsUnrun source out notes answer
 
 -- the same, and what the run leaves of the bench, and of the files where the devices tell them that
--- its program uses; first how many devices are on the bench before and after, then the devices
+-- its program uses
 pub record IsRunWithFiles (steps : ℕ) (source : SourceCall) (out notes : SinkCall)
-    (left left_now : ℕ) (old new : List Seen) (answer : Status) : Type 0 where
+    (bench : BenchCall) (answer : Status) : Type 0 where
   pub told : IsRunTold steps source out notes answer
   -- the run left so much of the bench and the files
-  pub over : ComesOver told.run.bytes steps out left left_now old new told.came
+  pub over : ComesOver told.run.bytes steps out bench told.came
 
 -- how such a call ends over the devices of a bench
-abbrev pub EndsOfRunWithFiles : ℕ → SourceCall → SinkCall → SinkCall → (left left_now : ℕ) →
-    (old new : List Seen) → Status → Type 0
-EndsOfRunWithFiles steps source out notes left left_now old new answer =
-    IsRunWithFiles steps source out notes left left_now old new answer
-    ⊎ IsUnrun source out notes answer × StaysAsWas left left_now old new
+abbrev pub EndsOfRunWithFiles : ℕ → SourceCall → SinkCall → SinkCall → BenchCall → Status → Type 0
+EndsOfRunWithFiles steps source out notes bench answer =
+    IsRunWithFiles steps source out notes bench answer
+    ⊎ IsUnrun source out notes answer × StaysAsWas bench
 
 -- a device failed and is gone from the bench, and its name was noted
-pub record IsDeviceTold (notes : SinkCall) (left left_now : ℕ) (old new : List Seen) : Type 0 where
+pub record IsDeviceTold (notes : SinkCall) (bench : BenchCall) : Type 0 where
   -- the name of the device
   pub name : List ℕ
   -- the first device of that name failed
-  pub fell : FellNamed name left left_now old new
+  pub fell : FellNamed name bench.left bench.left_now bench.old bench.new
   -- its name went to the notes
   pub noted : Takes (line_of (refusals.Device name)) notes

@@ -2,7 +2,7 @@
 use Rattle.std.specs.Prelude.{ℕ, ◌≡◌, List, Option, Some, None, Ok, Err}
 use Rattle.cob_base.specs.Source.{SourceCall}
 use Rattle.cob_base.specs.Sink.{SinkCall}
-use Rattle.file_model.specs.operations.Seen.{Seen}
+use Rattle.restructure_core.specs.run.Bench.{BenchCall}
 use Rattle.restructure_asks.specs.declared.ask.Ask.{Ask}
 use Rattle.restructure_asks.specs.declared.ask.Ask.TheVariants.{Restructure, Report, Check, Run, Generate, Trial}
 use Rattle.restructure_asks.specs.declared.texts.Texts.{Texts}
@@ -92,11 +92,11 @@ Ends (Some (Trial n)) source out notes answer =
     EndsOfText (Some (Trial n)) source out notes answer
 
 -- how a call ends over the devices of a bench, by its ask: only a run asks them
-abbrev pub EndsWithFiles : Option Ask → SourceCall → SinkCall → SinkCall → (left left_now : ℕ) →
-    (old new : List Seen) → Status → Type 0
-EndsWithFiles (Some (Run steps)) source out notes left left_now old new answer =
-    EndsOfRunWithFiles steps source out notes left left_now old new answer
-EndsWithFiles _ source out notes left left_now old new answer = Unit {0}
+abbrev pub EndsWithFiles : Option Ask → SourceCall → SinkCall → SinkCall → BenchCall → Status →
+    Type 0
+EndsWithFiles (Some (Run steps)) source out notes bench answer =
+    EndsOfRunWithFiles steps source out notes bench answer
+EndsWithFiles _ source out notes bench answer = Unit {0}
 
 -- how a call ends that leaves the source as it was, whatever the source
 abbrev pub EndsUnread : Option Ask → SinkCall → SinkCall → Status → Type 0

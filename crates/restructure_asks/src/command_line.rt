@@ -3,6 +3,7 @@
 ghost use Rattle.std.specs.Prelude.{◌≡◌, map, string_bytes, true, false, None, is_some, IfOk, OnErr};
 ghost use Rattle.cob_base.specs.Source.{source_call};
 ghost use Rattle.cob_base.specs.Sink.{sink_call};
+ghost use Rattle.restructure_core.specs.run.Bench.{bench_call};
 ghost use Rattle.restructure_asks.specs.Ask.{ask_of};
 ghost use Rattle.restructure_asks.specs.Running.{IsDeviceTold};
 ghost use Rattle.restructure_asks.specs.Tool.{Ends, EndsWithFiles};
@@ -42,7 +43,7 @@ The manual is docs/USING.md.
 ";
 
 const VERSION: &str = "Tumgaiba 0.1.0 (restructure_tool)
-proved with rattle-kit-13b logic dac8208d650f15bf
+proved with rattle-kit-13f logic dac8208d650f15bf
 ";
 
 /// Does what the command line asks, over any source, sinks and bench: `--help` and `--version` show
@@ -69,13 +70,10 @@ pub fn program<S: Source, K: Sink, N: Sink>(
         (source_call S.left S.faults source.old source.new)
         (sink_call K.held K.faults out.old out.new)
         (sink_call N.held N.faults notes.old notes.new)
-        bench.old.left bench.new.left
-        (map ⟦<Box<dyn Device> as Watched>⟧.seen bench.old.devices.items)
-        (map ⟦<Box<dyn Device> as Watched>⟧.seen bench.new.devices.items) result) }
+        (bench_call ⟦<Box<dyn Device> as Watched>⟧.seen bench.old bench.new) result) }
     ensures devices { result ≡ Status.DeviceFault → IsDeviceTold
-        (sink_call N.held N.faults notes.old notes.new) bench.old.left bench.new.left
-        (map ⟦<Box<dyn Device> as Watched>⟧.seen bench.old.devices.items)
-        (map ⟦<Box<dyn Device> as Watched>⟧.seen bench.new.devices.items) }
+        (sink_call N.held N.faults notes.old notes.new)
+        (bench_call ⟦<Box<dyn Device> as Watched>⟧.seen bench.old bench.new) }
 
     // where memory ran out for the words
     ensures wordless { OnErr words (result ≡ Status.NoMemory) }
@@ -112,13 +110,10 @@ fn serve<S: Source, K: Sink, N: Sink>(
         (source_call S.left S.faults source.old source.new)
         (sink_call K.held K.faults out.old out.new)
         (sink_call N.held N.faults notes.old notes.new)
-        bench.old.left bench.new.left
-        (map ⟦<Box<dyn Device> as Watched>⟧.seen bench.old.devices.items)
-        (map ⟦<Box<dyn Device> as Watched>⟧.seen bench.new.devices.items) result }
+        (bench_call ⟦<Box<dyn Device> as Watched>⟧.seen bench.old bench.new) result }
     ensures devices { result ≡ Status.DeviceFault → IsDeviceTold
-        (sink_call N.held N.faults notes.old notes.new) bench.old.left bench.new.left
-        (map ⟦<Box<dyn Device> as Watched>⟧.seen bench.old.devices.items)
-        (map ⟦<Box<dyn Device> as Watched>⟧.seen bench.new.devices.items) }
+        (sink_call N.held N.faults notes.old notes.new)
+        (bench_call ⟦<Box<dyn Device> as Watched>⟧.seen bench.old bench.new) }
 {
     match page_of(words) {
         Some(page) => write_text(alloc, page.as_bytes(), out, notes),

@@ -1,6 +1,6 @@
 //! What follows from how a call ends.
 
-ghost use Rattle.restructure_asks.specs.Laws.{WordsAreOfTheirAsk, OneAnswerIsDue, DueAnswerComes, AcceptedSourceIsDone, FaultySourceIsRefused, RefusedForFlowIsFaulty, OneRunIsDue, DueRunComes, OneRunIsDueOnFiles, DueRunComesOnFiles, UsageComes, GeneratedComes, ResultComesAgain, WithinLimitAllIsRead};
+ghost use Rattle.restructure_asks.specs.Laws.{WordsAreOfTheirAsk, OneAnswerIsDue, DueAnswerComes, AcceptedSourceIsDone, FaultySourceIsRefused, RefusedForFlowIsFaulty, OneRunIsDue, DueRunComes, OneRunIsDueOnFiles, DueRunComesOnFiles, BenchIsLeft, UsageComes, GeneratedComes, ResultComesAgain, WithinLimitAllIsRead};
 
 use fixed_point_laws::results::results_are_fixed;
 
@@ -36,6 +36,13 @@ pub fn due_run_comes()
     ensures due { DueRunComes }
     ensures one_on_files { OneRunIsDueOnFiles }
     ensures due_on_files { DueRunComesOnFiles }
+{}
+
+/// Whatever the status of a call to run, each device that failed is behind the bench and its count
+/// of failures rose, the others are on the bench in their order, and the files that were open are
+/// closed on them.
+pub fn runs_leave_their_bench()
+    ensures { BenchIsLeft }
 {}
 
 /// A result that was written, given as the source, is written again.

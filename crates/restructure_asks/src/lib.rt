@@ -11,6 +11,7 @@
 ghost use Rattle.std.specs.Prelude.{◌≡◌, false, map, string_bytes};
 ghost use Rattle.cob_base.specs.Source.{source_call};
 ghost use Rattle.cob_base.specs.Sink.{sink_call};
+ghost use Rattle.restructure_core.specs.run.Bench.{bench_call};
 ghost use Rattle.restructure_asks.specs.Ask.{ask_of as asked, is_run, reads};
 ghost use Rattle.restructure_asks.specs.Running.{IsDeviceTold};
 ghost use Rattle.restructure_asks.specs.Tool.{Ends, EndsWithFiles};
@@ -35,8 +36,8 @@ pub use command_line::program;
 use file_model::operations::Watched;
 use file_model::{Bench, Device};
 pub use laws::{
-    due_answer_comes, due_run_comes, one_answer_is_due, source_is_read_to_its_end,
-    words_are_of_one_ask,
+    due_answer_comes, due_run_comes, one_answer_is_due, runs_leave_their_bench,
+    source_is_read_to_its_end, words_are_of_one_ask,
 };
 pub use refusal::Refusal;
 use running::answer_run;
@@ -71,15 +72,12 @@ pub fn tool<S: Source, K: Sink, N: Sink>(
         (source_call S.left S.faults source.old source.new)
         (sink_call K.held K.faults out.old out.new)
         (sink_call N.held N.faults notes.old notes.new)
-        bench.old.left bench.new.left
-        (map ⟦<Box<dyn Device> as Watched>⟧.seen bench.old.devices.items)
-        (map ⟦<Box<dyn Device> as Watched>⟧.seen bench.new.devices.items) result }
+        (bench_call ⟦<Box<dyn Device> as Watched>⟧.seen bench.old bench.new) result }
 
     // a device that is reported as failed did fail, and is off the bench
     ensures devices { result ≡ Status.DeviceFault → IsDeviceTold
-        (sink_call N.held N.faults notes.old notes.new) bench.old.left bench.new.left
-        (map ⟦<Box<dyn Device> as Watched>⟧.seen bench.old.devices.items)
-        (map ⟦<Box<dyn Device> as Watched>⟧.seen bench.new.devices.items) }
+        (sink_call N.held N.faults notes.old notes.new)
+        (bench_call ⟦<Box<dyn Device> as Watched>⟧.seen bench.old bench.new) }
 
     // where nothing is read the source is as it was, also one of which nothing is known
     ensures unread { reads (asked (map string_bytes words.now)) ≡ 0 → source.new ≡ source.old }

@@ -1,8 +1,9 @@
 //! The ask to run a source.
 
-ghost use Rattle.std.specs.Prelude.{◌≡◌, map};
+ghost use Rattle.std.specs.Prelude.{◌≡◌};
 ghost use Rattle.cob_base.specs.Source.{source_call};
 ghost use Rattle.cob_base.specs.Sink.{sink_call};
+ghost use Rattle.restructure_core.specs.run.Bench.{bench_call};
 ghost use Rattle.restructure_asks.specs.Running.{EndsOfRun, EndsOfRunWithFiles, IsDeviceTold, TellsCame, refusal_of};
 ghost use Rattle.restructure_asks.specs.Running as runs;
 
@@ -38,13 +39,10 @@ pub fn answer_run<S: Source, K: Sink, N: Sink>(
         (source_call S.left S.faults source.old source.new)
         (sink_call K.held K.faults out.old out.new)
         (sink_call N.held N.faults notes.old notes.new)
-        bench.old.left bench.new.left
-        (map ⟦<Box<dyn Device> as Watched>⟧.seen bench.old.devices.items)
-        (map ⟦<Box<dyn Device> as Watched>⟧.seen bench.new.devices.items) result }
+        (bench_call ⟦<Box<dyn Device> as Watched>⟧.seen bench.old bench.new) result }
     ensures devices { result ≡ Status.DeviceFault → IsDeviceTold
-        (sink_call N.held N.faults notes.old notes.new) bench.old.left bench.new.left
-        (map ⟦<Box<dyn Device> as Watched>⟧.seen bench.old.devices.items)
-        (map ⟦<Box<dyn Device> as Watched>⟧.seen bench.new.devices.items) }
+        (sink_call N.held N.faults notes.old notes.new)
+        (bench_call ⟦<Box<dyn Device> as Watched>⟧.seen bench.old bench.new) }
 {
     match read_source(alloc, source) {
         Err(refusal) => note(alloc, &refusal, notes),

@@ -9,7 +9,7 @@ use Rattle.program_points.specs.declared.paths.trail.Trail.{Trail}
 use Rattle.program_points.proofs.paths_lemmas.Showing.{accepted-faulty}
 use Rattle.program_points.specs.numbering.Kind.{never_first_of}
 use Rattle.pending_returns.specs.declared.facts.Summary.{Summary}
-use Rattle.pending_returns.specs.Summary.{IsSummary, IsWithin, IsPast}
+use Rattle.pending_returns.specs.Summary.{IsSummary, IsWithin, IsRangeLimitOrNoMemory}
 use Rattle.restructure_core.specs.declared.fault.Refused.{Refused}
 use Rattle.restructure_core.specs.Flow.{HasFlowFault, IsTrailOf, IsFaultyBy, IsFlowRefusal}
 use Rattle.restructure_core.specs.Made.{IsClear}
@@ -29,11 +29,11 @@ faulty_flow program trail within h = record {
   shown = h;
 }
 
-past : (program : Program) (fault : SplitFault) → IsPast program fault →
+past : (program : Program) (fault : SplitFault) → IsRangeLimitOrNoMemory program fault →
     IsFlowRefusal program (of_split_fault fault)
 past program (split.Limit limit) h = h
 past program split.NoMemory h = tt
 
 pub flow_past : (program : Program) (fault : SplitFault) (why : Refused) →
-    why ≡ of_split_fault fault → IsPast program fault → IsFlowRefusal program why
+    why ≡ of_split_fault fault → IsRangeLimitOrNoMemory program fault → IsFlowRefusal program why
 flow_past program fault why is h = subst (IsFlowRefusal program) (sym is) (past program fault h)

@@ -16,7 +16,7 @@ use Rattle.restructure_core.specs.Flow.{PassesRanges, HasFlowFault, IsFaultless}
 use Rattle.restructure_core.specs.Limit.{result_limit}
 use Rattle.restructure_core.specs.Made.{IsMadeOf}
 use Rattle.restructure_core.specs.Fault.{of_read_refusal}
-use Rattle.restructure_core.specs.Pipeline.{IsUnread, IsPastRanges, IsFaultySource, PassesLimit, IsPastLimit, IsResultOf, IsRestructured, IsAccepted, HasCause, IsRefusedBy, IsRefusedByTrail, IsDoneWith, IsResultText}
+use Rattle.restructure_core.specs.Pipeline.{IsUnread, IsPastRanges, IsFaultySource, PassesLimit, IsPastLimit, IsResultOf, IsRestructured, IsRestructurable, HasCause, IsRefusedBy, IsRefusedByTrail, IsDoneWith, IsResultText}
 use Rattle.restructure_core.proofs.Ranges.{limits-same, within-past}
 use Rattle.restructure_core.proofs.ReadingBack.{within-limits}
 use Rattle.restructure_core.proofs.OneResult.{limited-faultless, done-faultless, limits-one, done-unlimited, dones-one}
@@ -205,7 +205,7 @@ module _ (bytes : List ℕ) (outcome : Outcome) (done : IfOk outcome (IsRestruct
         from (result h) =
             absurd (done-unlimited bytes source.program source.reads h.0 limit h.2 source.passes)
 
-  pub comes-done : IsAccepted bytes → IsOk outcome ⊎ (outcome ≡ Err refused.NoMemory)
+  pub comes-done : IsRestructurable bytes → IsOk outcome ⊎ (outcome ≡ Err refused.NoMemory)
   comes-done source = unless-memory (IsOk outcome)
       (λ due. from (of-program source.program source.reads due)) where
         from : IsOf source.program outcome → IsOk outcome

@@ -6,14 +6,14 @@ use Rattle.control_flow_theory.specs.language.Control.{control_of}
 use Rattle.program_points.specs.paths.Flow.{IsFaulty}
 use Rattle.program_points.specs.declared.paths.trail.Trail.{Trail}
 use Rattle.program_points.specs.numbering.Kind.{never_first_of}
-use Rattle.pending_returns.specs.Summary.{IsWithin, IsPast}
+use Rattle.pending_returns.specs.Summary.{IsWithin, IsRangeLimitOrNoMemory}
 use Rattle.overlap_trail.specs.finding.Finding.{IsFound}
 use Rattle.restructure_core.specs.declared.fault.Refused.{Refused}
 use Rattle.restructure_core.specs.declared.fault.Refused.TheVariants as refused
 
 -- the PERFORM statements of the program name more distinct ranges than there may be
 abbrev pub PassesRanges : Program → Limit → Type 0
-PassesRanges program limit = IsPast program (split.Limit limit)
+PassesRanges program limit = IsRangeLimitOrNoMemory program (split.Limit limit)
 
 -- some flow path comes to a fault
 abbrev pub HasFlowFault : Program → Type 0

@@ -100,7 +100,7 @@ IsReported bytes report =
     (text : List ℕ) × IsRestructured bytes (record { text = text; report = report })
 
 -- the bytes are a program without a fault of flow that passes no limit
-pub record IsAccepted (bytes : List ℕ) : Type 0 where
+pub record IsRestructurable (bytes : List ℕ) : Type 0 where
   pub program : Program
   pub reads : Reads bytes program
   pub faultless : IsFaultless program

@@ -7,7 +7,7 @@ ghost use Rattle.procedure_split.specs.shaped_ranges.Laws.{HasFlow};
 ghost use Rattle.restructure_core.specs.declared.fault.Refused as answers;
 ghost use Rattle.restructure_core.specs.Made.{IsClear};
 ghost use Rattle.restructure_core.specs.Pipeline.{IsUnread, IsPastRanges, IsFaultySource, IsPastLimit};
-ghost use Rattle.restructure_core.specs.Pipeline.{IsAccepted, IsRestructured, IsReported, IsAnswerTo};
+ghost use Rattle.restructure_core.specs.Pipeline.{IsRestructurable, IsRestructured, IsReported, IsAnswerTo};
 ghost use Rattle.restructure_core.specs.Pipeline.{HasCause, IsRefusedBy, IsRefusedByTrail};
 ghost use Rattle.restructure_core.specs.Pipeline.{IsDoneWith, IsResultText};
 
@@ -52,7 +52,7 @@ pub fn restructure(alloc: Global, bytes: &[u8]) -> Result<Done, Refused>
         IsFaultySource bytes.now program → IsRefusedByTrail program result }
     ensures past { (limit : limits.Limit) →
         IsPastLimit bytes.now limit → IsRefusedBy (Refused.Limit limit) result }
-    ensures accepted { IsAccepted bytes.now → IsOk result ⊎ (result ≡ Err Refused.NoMemory) }
+    ensures accepted { IsRestructurable bytes.now → IsOk result ⊎ (result ≡ Err Refused.NoMemory) }
 
     // of a result's text the same text is made again
     ensures again { IsResultText bytes.now → IsDoneWith bytes.now result }

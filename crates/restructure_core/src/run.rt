@@ -7,10 +7,11 @@
 //! 1989:1985). Over devices whose files are known `ComesOver` says what the run of any program
 //! comes to.
 
-ghost use Rattle.std.specs.Prelude.{◌≤◌, map, vec_len};
+ghost use Rattle.std.specs.Prelude.{◌≤◌, vec_len};
 ghost use Rattle.cob_base.specs.Faults.{Rose};
 ghost use Rattle.cob_base.specs.Sink.{sink_call};
-ghost use Rattle.restructure_core.specs.run.Answers.{CameFalls, CameOf, CameOver, Comes, ComesOver, IsWriteFault};
+ghost use Rattle.restructure_core.specs.run.Answers.{CameFalls, CameNested, CameOf, CameOver, Comes, ComesOver, IsWriteFault};
+ghost use Rattle.restructure_core.specs.run.Bench.{bench_call};
 
 use cob_base::Sink;
 use cob_tree::Program;
@@ -45,13 +46,14 @@ pub fn run_source<K: Sink>(
     requires within { bench.old.left ≤ vec_len bench.old.devices }
     ensures came { Comes bytes.now steps (sink_call K.held K.faults out.old out.new) result }
     ensures over { ComesOver bytes.now steps (sink_call K.held K.faults out.old out.new)
-        bench.old.left bench.new.left
-        (map ⟦<Box<dyn Device> as Watched>⟧.seen bench.old.devices.items)
-        (map ⟦<Box<dyn Device> as Watched>⟧.seen bench.new.devices.items) result }
+        (bench_call ⟦<Box<dyn Device> as Watched>⟧.seen bench.old bench.new) result }
+
+    // a structured program's run is what its nested statements mean
+    ensures nested { CameNested (sink_call K.held K.faults out.old out.new)
+        (bench_call ⟦<Box<dyn Device> as Watched>⟧.seen bench.old bench.new) result }
     ensures cause { IsWriteFault result → Rose (K.faults out.old) (K.faults out.new) }
-    ensures falls { CameFalls result bench.old.left bench.new.left
-        (map ⟦<Box<dyn Device> as Watched>⟧.seen bench.old.devices.items)
-        (map ⟦<Box<dyn Device> as Watched>⟧.seen bench.new.devices.items) }
+    ensures falls { CameFalls result
+        (bench_call ⟦<Box<dyn Device> as Watched>⟧.seen bench.old bench.new) }
 {
     match read(alloc, bytes) {
         Err(ReadRefusal::NoMemory) => Came::NoMemory,
@@ -69,13 +71,10 @@ fn run_program<K: Sink>(
 ) -> Came
     ensures came { CameOf program steps (sink_call K.held K.faults out.old out.new) result }
     ensures over { CameOver program steps (sink_call K.held K.faults out.old out.new)
-        bench.old.left bench.new.left
-        (map ⟦<Box<dyn Device> as Watched>⟧.seen bench.old.devices.items)
-        (map ⟦<Box<dyn Device> as Watched>⟧.seen bench.new.devices.items) result }
+        (bench_call ⟦<Box<dyn Device> as Watched>⟧.seen bench.old bench.new) result }
     ensures cause { IsWriteFault result → Rose (K.faults out.old) (K.faults out.new) }
-    ensures falls { CameFalls result bench.old.left bench.new.left
-        (map ⟦<Box<dyn Device> as Watched>⟧.seen bench.old.devices.items)
-        (map ⟦<Box<dyn Device> as Watched>⟧.seen bench.new.devices.items) }
+    ensures falls { CameFalls result
+        (bench_call ⟦<Box<dyn Device> as Watched>⟧.seen bench.old bench.new) }
 {
     let ran = run(alloc, &program, bench, out, steps);
     Came::Ran(program, ran)

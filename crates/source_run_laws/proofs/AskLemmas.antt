@@ -1,5 +1,5 @@
 -- How a call ends that runs a structured program tells what its nested statements mean.
-use Rattle.std.proofs.Common.{◌≡◌, ℕ, zero, List, [], take, Option, Some, None, refl, ap, sym, ◌∙◌, subst, inl, inr, append-nil}
+use Rattle.std.proofs.Common.{◌≡◌, ℕ, zero, List, [], Option, Some, None, refl, ap, sym, ◌∙◌, subst, inl, inr, append-nil}
 use Rattle.cob_base.specs.Source.{SourceCall}
 use Rattle.cob_base.specs.Sink.{SinkCall}
 use Rattle.cob_base.specs.giving.Giving.{Gained, Keeps}
@@ -19,6 +19,7 @@ use Rattle.cobol_run.specs.structured_runs.Shown.{BeginsNested, EndsNestedOver, 
 use Rattle.restructure_core.specs.declared.run.Came.{Came}
 use Rattle.restructure_core.specs.declared.run.Came.TheVariants as came
 use Rattle.restructure_core.specs.run.Answers.{Comes, ComesOver}
+use Rattle.restructure_core.specs.run.Bench.{BenchCall, devices_after, devices_before}
 use Rattle.restructure_asks.specs.declared.refusal.Refusal.TheVariants as refusal
 use Rattle.restructure_asks.specs.declared.status.Status.{Status}
 use Rattle.restructure_asks.specs.Reading.{Tells}
@@ -79,27 +80,27 @@ module _ (program : Program) (files : Files) (out notes : SinkCall) (devices : L
   ran-told steps ran.WriteFault answer h g = subst (TellsNested program files out notes devices) (sym g.0) h
   ran-told steps ran.NoMemory answer h g = no-memory-told answer g h
 
-module _ (shows : SourcesShowNested) (steps : ℕ) (bytes : List ℕ) (program : Program) (reads : Reads bytes program) (structured : IsStructured program) (files : Files) (out notes : SinkCall) (left left_now : ℕ) (old new : List desk.Seen) (tells : TellFiles program (take left old) files) (answer : Status) where
-  came-told : (c : Came) → Comes bytes steps out c → ComesOver bytes steps out left left_now old new c → TellsCame (refusal_of steps c) notes answer → TellsNested program files out notes (take left_now new) answer
+module _ (shows : SourcesShowNested) (steps : ℕ) (bytes : List ℕ) (program : Program) (reads : Reads bytes program) (structured : IsStructured program) (files : Files) (out notes : SinkCall) (bench : BenchCall) (tells : TellFiles program (devices_before bench) files) (answer : Status) where
+  came-told : (c : Came) → Comes bytes steps out c → ComesOver bytes steps out bench c → TellsCame (refusal_of steps c) notes answer → TellsNested program files out notes (devices_after bench) answer
   came-told (came.Ran other ran) h o g =
       let same : other ≡ program = one_way.program bytes other program o.0 reads in
-      let run : ComesOver bytes steps out left left_now old new (came.Ran program ran) = subst (λ p. ComesOver bytes steps out left left_now old new (came.Ran p ran)) same o in
-      ran-told program files out notes (take left_now new) steps ran answer
-      (shows bytes program steps out left left_now old new ran run structured files tells)
+      let run : ComesOver bytes steps out bench (came.Ran program ran) = subst (λ p. ComesOver bytes steps out bench (came.Ran p ran)) same o in
+      ran-told program files out notes (devices_after bench) steps ran answer
+      (shows bytes program steps out bench ran run structured files tells)
       (subst (λ p. TellsCame (refusal_of steps (came.Ran p ran)) notes answer) same g)
   came-told (came.Refused why) h o g = absurd (one_way.refused bytes program why reads h.1 h.0)
   came-told came.NoMemory h o g =
-      no-memory-told program files out notes (take left_now new) answer g
-      (begins-none program files out notes (take left_now new) h)
+      no-memory-told program files out notes (devices_after bench) answer g
+      (begins-none program files out notes (devices_after bench) h)
 
 pub asked-shown : SourcesShowNested → AskedRunsShowNested
-asked-shown shows steps source out notes left left_now old new answer (inl h) bytes program files told reads structured tells =
+asked-shown shows steps source out notes bench answer (inl h) bytes program files told reads structured tells =
     let same : h.told.run.bytes ≡ bytes = sym (subst (λ t. Tells t h.told.run.bytes) told h.told.run.told) in
-    came-told shows steps bytes program reads structured files out notes left left_now old new tells answer h.told.came
+    came-told shows steps bytes program reads structured files out notes bench tells answer h.told.came
     (subst (λ b. Comes b steps out h.told.came) same h.told.run.comes)
-    (subst (λ b. ComesOver b steps out left left_now old new h.told.came) same h.over) h.told.told
-asked-shown shows steps source out notes left left_now old new answer (inr h) bytes program files told reads structured tells =
-    unrun-told program files out notes (take left_now new) source answer h.0
+    (subst (λ b. ComesOver b steps out bench h.told.came) same h.over) h.told.told
+asked-shown shows steps source out notes bench answer (inr h) bytes program files told reads structured tells =
+    unrun-told program files out notes (devices_after bench) source answer h.0
 
 pub asked-results : SourcesShowNested → AskedResultsShowNested
 asked-results shows bytes is =
@@ -107,6 +108,6 @@ asked-results shows bytes is =
       made.0,
       made.1,
       made.2,
-      λ steps source out notes left left_now old new answer ends files told tells.
-          asked-shown shows steps source out notes left left_now old new answer ends bytes made.0 files told made.1 made.2 tells,
+      λ steps source out notes bench answer ends files told tells.
+          asked-shown shows steps source out notes bench answer ends bytes made.0 files told made.1 made.2 tells,
     )

@@ -4,7 +4,6 @@ use Rattle.cob_base.specs.Sink.{SinkCall}
 use Rattle.cob_tree.specs.declared.program.Program.{Program}
 use Rattle.control_flow_theory.proofs.language_lemmas.OwnStatements.{paragraphs-own}
 use Rattle.end_to_end_laws.proofs.read_programs_lemmas.named_reading_lemmas.Whole.{read-named}
-use Rattle.file_model.specs.operations.Seen.{Seen}
 use Rattle.struct_form.specs.Structured.{IsStructured}
 use Rattle.cobol_read.proofs.OneWay.{one_way}
 use Rattle.cobol_read.specs.Reading.{Reads}
@@ -13,13 +12,14 @@ use Rattle.cobol_run.specs.Own.{IsOwn}
 use Rattle.cobol_run.specs.structured_runs.Shown.{RunsShowNestedStatements}
 use Rattle.restructure_core.specs.declared.run.Came.TheVariants as came
 use Rattle.restructure_core.specs.run.Answers.{ComesOver}
+use Rattle.restructure_core.specs.run.Bench.{BenchCall}
 use Rattle.restructure_core.specs.Pipeline.{IsResultText}
 use Rattle.structured_run_laws.specs.Runs.{NestedEndsAreReached, RunsShowNested}
 use Rattle.source_run_laws.specs.Sources.{PlainSourcesShowNested, RanAsNested, ResultsShowNested, SourcesReachNestedEnds, SourcesShowNested}
 
 pub sources-shown : RunsShowNested → SourcesShowNested
-sources-shown shows bytes program steps sink left left_now old new ran h structured files tells =
-    shows program steps sink left left_now old new ran h.2 structured.structured h.1 files tells
+sources-shown shows bytes program steps sink bench ran h structured files tells =
+    shows program steps sink bench.left bench.left_now bench.old bench.new ran h.2.0 structured.structured h.1 files tells
 
 pub plain-shown : RunsShowNestedStatements → PlainSourcesShowNested
 plain-shown shows bytes program steps sink ran h plain structured files =
@@ -33,8 +33,8 @@ pub sources-reached : NestedEndsAreReached → SourcesReachNestedEnds
 sources-reached reached bytes program reads structured =
     let ends = reached program structured.structured (read-own bytes program reads) in (
       ends.0,
-      λ files units steps how there stands le sink left left_now old new ran h tells.
-          ends.1 files units steps how there stands le sink left left_now old new ran h.2 tells,
+      λ files units steps how there stands le sink bench ran h tells.
+          ends.1 files units steps how there stands le sink bench.left bench.left_now bench.old bench.new ran h.2.0 tells,
     )
 
 -- the program of a text that was restructured
@@ -44,11 +44,11 @@ result-read bytes h =
     (made, subst (λ text. Reads text made) h.3 h.2.read_back, h.2.structured)
 
 module _ (shows : SourcesShowNested) (bytes : List ℕ) (program : Program) (reads : Reads bytes program) (structured : IsStructured program) where
-  result-shown : (other : Program) (steps : ℕ) (sink : SinkCall) (left left_now : ℕ) (old new : List Seen) (ran : Ran) → ComesOver bytes steps sink left left_now old new (came.Ran other ran) → (other ≡ program) × RanAsNested program sink left left_now old new ran
-  result-shown other steps sink left left_now old new ran h =
+  result-shown : (other : Program) (steps : ℕ) (sink : SinkCall) (bench : BenchCall) (ran : Ran) → ComesOver bytes steps sink bench (came.Ran other ran) → (other ≡ program) × RanAsNested program sink bench ran
+  result-shown other steps sink bench ran h =
       let same : other ≡ program = one_way.program bytes other program h.0 reads in
-      let run : ComesOver bytes steps sink left left_now old new (came.Ran program ran) = subst (λ p. ComesOver bytes steps sink left left_now old new (came.Ran p ran)) same h in
-      (same, shows bytes program steps sink left left_now old new ran run structured)
+      let run : ComesOver bytes steps sink bench (came.Ran program ran) = subst (λ p. ComesOver bytes steps sink bench (came.Ran p ran)) same h in
+      (same, shows bytes program steps sink bench ran run structured)
 
 pub results-shown : SourcesShowNested → ResultsShowNested
 results-shown shows bytes is =

@@ -60,4 +60,4 @@ pub record IsProcedure (paragraph : Paragraph) : Type 0 where
 -- paragraph, the first ends in STOP RUN, and each other one is performed from an earlier one
 pub record IsStructured (program : Program) : Type 0 where
   pub procedures : All IsProcedure program.paragraphs
-  pub structured : control.IsStructured (control_of program)
+  pub structured : control.IsStructuredControl (control_of program)

@@ -3,7 +3,7 @@ use Rattle.std.proofs.Common.{◌≡◌, ℕ, ◌+◌, ◌*◌, ◌++◌, ap, �
 use Rattle.cob_tree.specs.declared.program.Program.{Program}
 use Rattle.meanings.specs.statements.Does.{declared_in}
 use Rattle.control_flow_theory.specs.language.Control.{control_of}
-use Rattle.control_flow_theory.specs.language.Structured.{IsStructured}
+use Rattle.control_flow_theory.specs.language.Structured.{IsStructuredControl}
 use Rattle.control_flow_theory.specs.runs.Machine.{meaning}
 use Rattle.control_flow_theory.specs.runs.Run.{Begins, Covers, Over}
 use Rattle.control_flow_theory.specs.runs.Tied.{Tied}
@@ -47,7 +47,7 @@ shows-there : (first second : Run Files) (trace : Trace) → Covers first second
 shows-there first second trace h begins =
     (begins.0 ++ h.shows.0, h.shows.1 ∙ ap (λ t. t ++ h.shows.0) begins.1 ∙ append_assoc trace begins.0 h.shows.0)
 
-module _ (program : Program) (structured : IsStructured (control_of program)) (files : Files) where
+module _ (program : Program) (structured : IsStructuredControl (control_of program)) (files : Files) where
   there-covered : (n : ℕ) → Covers (source_run program files n) (structural_run program files ((are-tied program structured).there * (n + 1)))
   there-covered n = (are-tied program structured).covered files n ((are-tied program structured).there * (n + 1)) (omega arith)
 

@@ -3,7 +3,7 @@ use Rattle.std.proofs.Common.{◌≡◌, ℕ, List, [], take, refl, sym, ◌∙�
 use Rattle.cob_base.specs.Sink.{SinkCall}
 use Rattle.cob_tree.specs.declared.program.Program.{Program}
 use Rattle.control_flow_theory.specs.language.Control.{control_of}
-use Rattle.control_flow_theory.specs.language.Structured.{IsStructured}
+use Rattle.control_flow_theory.specs.language.Structured.{IsStructuredControl}
 use Rattle.control_flow_theory.specs.runs.Run.{Going, Over}
 use Rattle.control_flow_theory.specs.semantics.Outcome.{Abend, Ending, Faulted, FlowFault, How, Normally, Stopped}
 use Rattle.control_flow_theory.proofs.semantics_agree_lemmas.Tying.{covers-matched}
@@ -33,7 +33,7 @@ ended-whole : (program : Program) (files : Files) (sink : SinkCall) (gone : List
 ended-whole program files sink gone devices how none h =
     subst (λ names. ShowsNestedOver program files sink names devices (ran.Ended how)) none h
 
-module _ (shows : RunsOverFilesShowNestedStatements) (program : Program) (steps : ℕ) (sink : SinkCall) (left left_now : ℕ) (old new : List Seen) (structured : IsStructured (control_of program)) (own : IsOwn program) (files : Files) (tells : TellFiles program (take left old) files) where
+module _ (shows : RunsOverFilesShowNestedStatements) (program : Program) (steps : ℕ) (sink : SinkCall) (left left_now : ℕ) (old new : List Seen) (structured : IsStructuredControl (control_of program)) (own : IsOwn program) (files : Files) (tells : TellFiles program (take left old) files) where
   shown : (came : Ran) → (h : RunEnds program steps sink left left_now old new came) → ShowsNestedOver program files sink h.gone (take left_now new) came
   shown came h =
       shows program structured files steps sink h.gone (take left_now new) came (h.files files own tells)

@@ -2,7 +2,7 @@
 use Rattle.std.specs.Prelude.{ℕ, ◌≡◌, ◌↔◌}
 use Rattle.cob_tree.specs.declared.program.Program.{Program}
 use Rattle.control_flow_theory.specs.language.Control.{control_of}
-use Rattle.control_flow_theory.specs.language.Structured.{IsStructured}
+use Rattle.control_flow_theory.specs.language.Structured.{IsStructuredControl}
 use Rattle.control_flow_theory.specs.runs.Run.{Begins, Over}
 use Rattle.control_flow_theory.specs.runs.Tied.{Tied}
 use Rattle.control_flow_theory.specs.semantics.Outcome.{How, Run, Stopped, Trace}
@@ -13,7 +13,7 @@ use Rattle.cobol_theory.specs.cobol_meaning.Runs.{Files, source_run, structural_
 -- and where the other is over it is the same run
 abbrev pub MeaningsAreTied : Type 0
 MeaningsAreTied =
-    (program : Program) → IsStructured (control_of program) →
+    (program : Program) → IsStructuredControl (control_of program) →
     Tied (source_run program) (structural_run program)
 
 -- within some steps it stops so, with these files left, and has shown this
@@ -24,7 +24,7 @@ StopsWith run how left trace =
 -- over all files both stop in the same ways, with the same files left and the same trace
 abbrev pub MeaningsStopAlike : Type 0
 MeaningsStopAlike =
-    (program : Program) → IsStructured (control_of program) →
+    (program : Program) → IsStructuredControl (control_of program) →
     (files : Files) (how : How) (left : Files) (trace : Trace) →
     StopsWith (source_run program files) how left trace
     ↔ StopsWith (structural_run program files) how left trace
@@ -37,5 +37,6 @@ ShowsFirst run trace = (n : ℕ) × Begins trace (run n).trace
 -- not they ever stop
 abbrev pub MeaningsShowAlike : Type 0
 MeaningsShowAlike =
-    (program : Program) → IsStructured (control_of program) → (files : Files) (trace : Trace) →
+    (program : Program) → IsStructuredControl (control_of program) →
+    (files : Files) (trace : Trace) →
     ShowsFirst (source_run program files) trace ↔ ShowsFirst (structural_run program files) trace

@@ -4,7 +4,7 @@ use Rattle.cob_base.specs.Sink.{SinkCall}
 use Rattle.cob_base.specs.giving.Giving.{Gains}
 use Rattle.cob_tree.specs.declared.program.Program.{Program}
 use Rattle.control_flow_theory.specs.language.Control.{control_of}
-use Rattle.control_flow_theory.specs.language.Structured.{IsStructured}
+use Rattle.control_flow_theory.specs.language.Structured.{IsStructuredControl}
 use Rattle.control_flow_theory.specs.runs.Run.{Over}
 use Rattle.control_flow_theory.specs.semantics.Outcome.{How, Stopped, Trace}
 use Rattle.file_model.specs.World.{shelf_found}
@@ -27,7 +27,7 @@ abbrev pub RunsShowNested : Type 0
 RunsShowNested =
     (program : Program) (steps : ℕ) (sink : SinkCall) (left left_now : ℕ) (old new : List Seen)
     (came : Ran) → RunEnds program steps sink left left_now old new came →
-    IsStructured (control_of program) → IsOwn program →
+    IsStructuredControl (control_of program) → IsOwn program →
     (files : Files) → TellFiles program (take left old) files →
     ShowsNestedOver program files sink [] (take left_now new) came
 
@@ -53,7 +53,7 @@ ReachesEnd program steps files how there trace =
 -- ends so; how many steps a unit takes is chosen before the files and the units
 abbrev pub NestedEndsAreReached : Type 0
 NestedEndsAreReached =
-    (program : Program) → IsStructured (control_of program) → IsOwn program →
+    (program : Program) → IsStructuredControl (control_of program) → IsOwn program →
     (steps_per_unit : ℕ) × ((files : Files) (units steps : ℕ) (how : How) (there : Files) →
     (structural_run program files units).standing ≡ Over (Stopped how there) →
     steps_per_unit * (units + 1) ≤ steps →

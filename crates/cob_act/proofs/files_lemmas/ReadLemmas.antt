@@ -41,8 +41,9 @@ pub read_came : (declared : Declared) (listed : List FileEntry) (file : ℕ) (be
     (IsOver listed old table world → Tries listed (Ok status) (read_at world file (address_by (slice_get listed file)) spot.length) new now) → (IsOver listed old table world → ◌≡◌ {A = Result ℕ FileFault} (Ok status) (Ok 0) → given ≡ (read_at world file (address_by (slice_get listed file)) spot.length).bytes) →
     mid ≡ (if status == 0 then put_at before spot (fitted spot.length sent) else before) → IsOver declared.files old table world →
     Tries declared.files (Ok status) (read_at world file (address_at declared file) (record_spot declared file).length) new now × (mid ≡ record_put declared file before (read_at world file (address_at declared file) (record_spot declared file).length))
+    × (status ≡ 0 → given ≡ (read_at world file (address_at declared file) (record_spot declared file).length).bytes)
 read_came declared listed file before mid spot status given sent old new table now world at is same many does came put over =
-    (tries, put_record declared file before mid spot attempt status sent at tries.0 (λ zero. same ∙ bytes (ap (λ n. Ok n) zero)) (ap length same ∙ many) put)
+    (tries, put_record declared file before mid spot attempt status sent at tries.0 (λ zero. same ∙ bytes (ap (λ n. Ok n) zero)) (ap length same ∙ many) put, λ zero. bytes (ap (λ n. Ok n) zero))
   where
     attempt : Attempt
     attempt = read_at world file (address_at declared file) (record_spot declared file).length

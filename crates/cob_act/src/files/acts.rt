@@ -1,6 +1,6 @@
 //! OPEN, CLOSE, READ, WRITE and REWRITE.
 
-ghost use Rattle.std.specs.Prelude.{◌≡◌, ◌⊎◌, ◌≤◌, ◌==◌, ◌&&◌, IfErr, IfOk, None, Ok, if◌then◌else◌, length, map, option_copied, slice_get, take, vec_len};
+ghost use Rattle.std.specs.Prelude.{◌≡◌, ◌⊎◌, ◌<◌, ◌≤◌, ◌==◌, ◌&&◌, [], ◌∷◌, IfErr, IfOk, IsTrue, None, Ok, if◌then◌else◌, length, map, option_copied, slice_get, take, vec_capacity, vec_len};
 ghost use Rattle.cob_store.specs.Store.{fitted, put_at};
 ghost use Rattle.file_model.specs.Attempts.{read_at};
 ghost use Rattle.file_model.specs.World.{World};
@@ -8,12 +8,14 @@ ghost use Rattle.meanings.specs.statements.Does.{declared_with};
 ghost use Rattle.meanings.specs.statements.Filing.{Chose, Went, address_by, each_file, from_by, opened, read, rewritten, shut, written};
 ghost use Rattle.cob_act.specs.files.Ends.{DoneOver, ended_as};
 ghost use Rattle.cob_act.specs.files.Over.{BreaksIn, Did, EndsAs, IsOver, MovedFrom, PutsOut, Stays, StopsAmong, Tries, read_then};
+ghost use Rattle.cob_act.specs.files.Work.{Keeps, KeepsMore};
 
 use crate::ActOutcome;
 use crate::files::desk::{close, open, read, rewrite, write};
 use crate::files::fault::FileFault;
 use crate::files::record::{file_of, moved_into, moved_out, record_spot, take_record};
 use crate::files::status::{settled, status_spot};
+use crate::files::work::{FileVerb, FileWork};
 use cob_base::NoMemory;
 use cob_store::{Areas, Spot, Store};
 use cob_tree::{Abend, FileEntry, Opening, Operand, Place, Program};
@@ -29,6 +31,7 @@ fn opened(
     bench: &mut Bench,
     table: &mut FileTable,
     opening: Opening,
+    work: &mut FileWork,
 ) -> Result<ActOutcome, FileFault>
     ensures bench { DoneOver result program.now.files bench.old.left bench.new.left
         (map ⟦<Box<dyn Device> as Watched>⟧.seen bench.old.devices.items)
@@ -47,11 +50,18 @@ fn opened(
         Stays result program.now.files world bench.new.left
         (map ⟦<Box<dyn Device> as Watched>⟧.seen bench.new.devices.items) table.new.rows }
     ensures kept { IfErr result (λ fault. store.new ≡ store.old) }
+    ensures logged { (world : World) → IsOver program.now.files
+        (take bench.old.left (map ⟦<Box<dyn Device> as Watched>⟧.seen bench.old.devices.items))
+        table.old.rows world → KeepsMore result work.old work.new
+        (opened (declared_with program.now areas.now) store.old world opening).operations }
+    ensures keeps { work.new.keeps ≡ work.old.keeps }
 {
     match status_spot(program, areas, store, opening.file) {
         Err(abend) => Ok(ActOutcome::Abended(abend)),
         Ok(item) => {
+            work.ready()?;
             let status = open(bench, table, program.files.as_slice(), opening)?;
+            work.note(FileVerb::Open, opening.file, status);
             Ok(settled(store, item, false, status))
         }
     }
@@ -65,6 +75,7 @@ pub fn all_opened(
     bench: &mut Bench,
     table: &mut FileTable,
     openings: &[Opening],
+    work: &mut FileWork,
 ) -> Result<ActOutcome, FileFault>
     requires within { bench.old.left ≤ vec_len bench.old.devices }
     ensures bench { DoneOver result program.now.files bench.old.left bench.new.left
@@ -93,9 +104,16 @@ pub fn all_opened(
         (opened (declared_with program.now areas.now))
         (each_file (opened (declared_with program.now areas.now)) store.old world openings.now)
         world openings.now store.new) }
+    ensures logged { (world : World) → IsOver program.now.files
+        (take bench.old.left (map ⟦<Box<dyn Device> as Watched>⟧.seen bench.old.devices.items))
+        table.old.rows world → Keeps result work.old work.new
+        (each_file (opened (declared_with program.now areas.now)) store.old world openings.now).operations }
+    ensures keeps { work.new.keeps ≡ work.old.keeps }
 {
     for opening in openings {
-        if let ActOutcome::Abended(abend) = opened(program, areas, store, bench, table, *opening)? {
+        if let ActOutcome::Abended(abend) = opened(
+            program, areas, store, bench, table, *opening, work,
+        )? {
             return Ok(ActOutcome::Abended(abend));
         }
     }
@@ -111,6 +129,7 @@ fn shut(
     bench: &mut Bench,
     table: &mut FileTable,
     file: u32,
+    work: &mut FileWork,
 ) -> Result<ActOutcome, FileFault>
     ensures bench { DoneOver result program.now.files bench.old.left bench.new.left
         (map ⟦<Box<dyn Device> as Watched>⟧.seen bench.old.devices.items)
@@ -129,11 +148,18 @@ fn shut(
         Stays result program.now.files world bench.new.left
         (map ⟦<Box<dyn Device> as Watched>⟧.seen bench.new.devices.items) table.new.rows }
     ensures kept { IfErr result (λ fault. store.new ≡ store.old) }
+    ensures logged { (world : World) → IsOver program.now.files
+        (take bench.old.left (map ⟦<Box<dyn Device> as Watched>⟧.seen bench.old.devices.items))
+        table.old.rows world → KeepsMore result work.old work.new
+        (shut (declared_with program.now areas.now) store.old world file).operations }
+    ensures keeps { work.new.keeps ≡ work.old.keeps }
 {
     match status_spot(program, areas, store, file) {
         Err(abend) => Ok(ActOutcome::Abended(abend)),
         Ok(item) => {
+            work.ready()?;
             let status = close(bench, table, program.files.as_slice(), file)?;
+            work.note(FileVerb::Close, file, status);
             Ok(settled(store, item, false, status))
         }
     }
@@ -147,6 +173,7 @@ pub fn all_shut(
     bench: &mut Bench,
     table: &mut FileTable,
     files: &[u32],
+    work: &mut FileWork,
 ) -> Result<ActOutcome, FileFault>
     requires within { bench.old.left ≤ vec_len bench.old.devices }
     ensures bench { DoneOver result program.now.files bench.old.left bench.new.left
@@ -175,20 +202,27 @@ pub fn all_shut(
         (shut (declared_with program.now areas.now))
         (each_file (shut (declared_with program.now areas.now)) store.old world files.now)
         world files.now store.new) }
+    ensures logged { (world : World) → IsOver program.now.files
+        (take bench.old.left (map ⟦<Box<dyn Device> as Watched>⟧.seen bench.old.devices.items))
+        table.old.rows world → Keeps result work.old work.new
+        (each_file (shut (declared_with program.now areas.now)) store.old world files.now).operations }
+    ensures keeps { work.new.keeps ≡ work.old.keeps }
 {
     for file in files {
-        if let ActOutcome::Abended(abend) = shut(program, areas, store, bench, table, *file)? {
+        if let ActOutcome::Abended(abend) = shut(
+            program, areas, store, bench, table, *file, work,
+        )? {
             return Ok(ActOutcome::Abended(abend));
         }
     }
     Ok(ActOutcome::Went)
 }
 
-fn make_room(scratch: &mut Vec<u8>, size: usize) -> Result<(), NoMemory>
-    ensures { IfOk result (λ u. length scratch.new.items ≡ size) }
+fn make_room(bytes: &mut Vec<u8>, size: usize) -> Result<(), NoMemory>
+    ensures { IfOk result (λ u. length bytes.new.items ≡ size) }
 {
-    scratch.clear();
-    scratch.resize(size, b' ')?;
+    bytes.clear();
+    bytes.resize(size, b' ')?;
     Ok(())
 }
 
@@ -246,13 +280,14 @@ fn read_end(
     }
 }
 
-// Reads the next record of a file into `scratch`, which gets the length of the record area.
+// Reads the next record of a file, which gets the length of the record area, and keeps the
+// operation.
 fn next_record(
     bench: &mut Bench,
     table: &mut FileTable,
     files: &[FileEntry],
     file: u32,
-    scratch: &mut Vec<u8>,
+    work: &mut FileWork,
     size: usize,
 ) -> Result<u8, FileFault>
     ensures bench { DoneOver result files.now bench.old.left bench.new.left
@@ -267,17 +302,22 @@ fn next_record(
         table.new.rows }
     ensures came { (world : World) → IsOver files.now
         (take bench.old.left (map ⟦<Box<dyn Device> as Watched>⟧.seen bench.old.devices.items))
-        table.old.rows world → result ≡ Ok 0 → scratch.new.items
+        table.old.rows world → result ≡ Ok 0 → work.new.bytes.items
         ≡ (read_at world file (address_by (slice_get files.now file)) size).bytes }
-    ensures room { IfOk result (λ status. length scratch.new.items ≡ size) }
+    ensures room { IfOk result (λ status. length work.new.bytes.items ≡ size) }
     ensures breaks { (world : World) → IsOver files.now
         (take bench.old.left (map ⟦<Box<dyn Device> as Watched>⟧.seen bench.old.devices.items))
         table.old.rows world →
         Stays result files.now world bench.new.left
         (map ⟦<Box<dyn Device> as Watched>⟧.seen bench.new.devices.items) table.new.rows }
+    ensures logged { IfOk result (λ status. IsTrue work.old.keeps → work.old.done.items ≡ [] →
+        work.new.done.items ≡ record { verb = FileVerb.Read; file = file; status = status } ∷ []) }
+    ensures keeps { work.new.keeps ≡ work.old.keeps }
 {
-    make_room(scratch, size)?;
-    let status = read(bench, table, files, file, scratch.as_mut_slice())?;
+    make_room(&mut work.bytes, size)?;
+    work.ready()?;
+    let status = read(bench, table, files, file, work.bytes.as_mut_slice())?;
+    work.note(FileVerb::Read, file, status);
     Ok(status)
 }
 
@@ -294,7 +334,7 @@ pub fn read_one(
     program: &Program,
     areas: &Areas,
     store: &mut Store,
-    scratch: &mut Vec<u8>,
+    work: &mut FileWork,
     bench: &mut Bench,
     table: &mut FileTable,
     reading: ReadRequest,
@@ -327,6 +367,12 @@ pub fn read_one(
         table.old.rows world → IfErr result (λ fault. (store.new ≡ store.old) ⊎ (store.new
         ≡ (read (declared_with program.now areas.now) store.old world reading.entry.file
         None reading.entry.at_end reading.entry.arms).store)) }
+    ensures logged { (world : World) → IsOver program.now.files
+        (take bench.old.left (map ⟦<Box<dyn Device> as Watched>⟧.seen bench.old.devices.items))
+        table.old.rows world → Keeps result work.old work.new
+        (read (declared_with program.now areas.now) store.old world reading.entry.file
+        (option_copied reading.entry.into) reading.entry.at_end reading.entry.arms).operations }
+    ensures keeps { work.new.keeps ≡ work.old.keeps }
 {
     let item = match status_spot(program, areas, store, reading.file) {
         Err(abend) => return Ok(ActOutcome::Abended(abend)),
@@ -339,14 +385,14 @@ pub fn read_one(
         table,
         files,
         reading.file,
-        scratch,
+        work,
         spot.length as usize,
     )?;
-    record_put(store, spot, status, scratch.as_slice());
+    record_put(store, spot, status, work.bytes.as_slice());
     let cared = is_cared(reading.at_end, status);
     match settled(store, item, cared, status) {
         ActOutcome::Abended(abend) => Ok(ActOutcome::Abended(abend)),
-        _ => Ok(read_end(program, areas, store, scratch, reading, status)?),
+        _ => Ok(read_end(program, areas, store, &mut work.scratch, reading, status)?),
     }
 }
 
@@ -358,28 +404,33 @@ pub struct WriteRequest<'a> {
     pub from: Option<&'a Operand>,
 }
 
-// FROM; then `scratch` gets the record that is to be written.
+// FROM; then the record that is to be written, and room to keep the operation.
 fn put_out(
     program: &Program,
     areas: &Areas,
     store: &mut Store,
-    scratch: &mut Vec<u8>,
+    work: &mut FileWork,
     entry: u32,
     from: Option<&Operand>,
 ) -> Result<Result<Option<Spot>, Abend>, NoMemory>
     ensures does { IfOk result (λ answer. PutsOut (declared_with program.now areas.now) entry
         (from_by (declared_with program.now areas.now) entry store.old (option_copied from.entry))
-        answer store.new scratch.new.items) }
+        answer store.new work.new.bytes.items) }
     ensures kept { IfErr result (λ e. MovedFrom
         (from_by (declared_with program.now areas.now) entry store.old (option_copied from.entry))
         store.old store.new) }
+    ensures room { IfOk result (λ answer. IfOk answer (λ item. IsTrue work.old.keeps →
+        vec_len work.new.done < vec_capacity work.new.done)) }
+    ensures done { work.new.done.items ≡ work.old.done.items }
+    ensures keeps { work.new.keeps ≡ work.old.keeps }
 {
-    if let Err(abend) = moved_out(program, areas, store, scratch, entry, from)? {
+    if let Err(abend) = moved_out(program, areas, store, &mut work.scratch, entry, from)? {
         return Ok(Err(abend));
     }
     let file = file_of(program, areas, entry);
     let item = status_spot(program, areas, store, file);
-    take_record(program, areas, store, file, entry, scratch)?;
+    take_record(program, areas, store, file, entry, &mut work.bytes)?;
+    work.ready()?;
     Ok(item)
 }
 
@@ -389,7 +440,7 @@ pub fn written(
     program: &Program,
     areas: &Areas,
     store: &mut Store,
-    scratch: &mut Vec<u8>,
+    work: &mut FileWork,
     bench: &mut Bench,
     table: &mut FileTable,
     writing: WriteRequest,
@@ -420,13 +471,20 @@ pub fn written(
     ensures kept { IfErr result (λ fault. MovedFrom
         (from_by (declared_with program.now areas.now) writing.entry.entry store.old
         (option_copied writing.entry.from)) store.old store.new) }
+    ensures logged { (world : World) → IsOver program.now.files
+        (take bench.old.left (map ⟦<Box<dyn Device> as Watched>⟧.seen bench.old.devices.items))
+        table.old.rows world → Keeps result work.old work.new
+        (written (declared_with program.now areas.now) store.old world writing.entry.entry
+        (option_copied writing.entry.from)).operations }
+    ensures keeps { work.new.keeps ≡ work.old.keeps }
 {
-    match put_out(program, areas, store, scratch, writing.entry, writing.from)? {
+    match put_out(program, areas, store, work, writing.entry, writing.from)? {
         Err(abend) => Ok(ActOutcome::Abended(abend)),
         Ok(item) => {
             let file = file_of(program, areas, writing.entry);
             let files = program.files.as_slice();
-            let status = write(bench, table, files, file, scratch.as_slice())?;
+            let status = write(bench, table, files, file, work.bytes.as_slice())?;
+            work.note(FileVerb::Write, file, status);
             Ok(settled(store, item, false, status))
         }
     }
@@ -438,7 +496,7 @@ pub fn rewritten(
     program: &Program,
     areas: &Areas,
     store: &mut Store,
-    scratch: &mut Vec<u8>,
+    work: &mut FileWork,
     bench: &mut Bench,
     table: &mut FileTable,
     writing: WriteRequest,
@@ -469,13 +527,20 @@ pub fn rewritten(
     ensures kept { IfErr result (λ fault. MovedFrom
         (from_by (declared_with program.now areas.now) writing.entry.entry store.old
         (option_copied writing.entry.from)) store.old store.new) }
+    ensures logged { (world : World) → IsOver program.now.files
+        (take bench.old.left (map ⟦<Box<dyn Device> as Watched>⟧.seen bench.old.devices.items))
+        table.old.rows world → Keeps result work.old work.new
+        (rewritten (declared_with program.now areas.now) store.old world writing.entry.entry
+        (option_copied writing.entry.from)).operations }
+    ensures keeps { work.new.keeps ≡ work.old.keeps }
 {
-    match put_out(program, areas, store, scratch, writing.entry, writing.from)? {
+    match put_out(program, areas, store, work, writing.entry, writing.from)? {
         Err(abend) => Ok(ActOutcome::Abended(abend)),
         Ok(item) => {
             let file = file_of(program, areas, writing.entry);
             let files = program.files.as_slice();
-            let status = rewrite(bench, table, files, file, scratch.as_slice())?;
+            let status = rewrite(bench, table, files, file, work.bytes.as_slice())?;
+            work.note(FileVerb::Rewrite, file, status);
             Ok(settled(store, item, false, status))
         }
     }

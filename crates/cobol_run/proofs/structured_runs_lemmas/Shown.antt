@@ -3,7 +3,7 @@ use Rattle.std.proofs.Common.{◌≡◌, ◌+◌, ◌*◌, ℕ, zero, suc, false
 use Rattle.cob_base.specs.Sink.{SinkCall}
 use Rattle.cob_tree.specs.declared.program.Program.{Program}
 use Rattle.control_flow_theory.specs.language.Control.{control_of}
-use Rattle.control_flow_theory.specs.language.Structured.{IsStructured}
+use Rattle.control_flow_theory.specs.language.Structured.{IsStructuredControl}
 use Rattle.file_model.specs.World.{shelf_found}
 use Rattle.file_model.specs.operations.Calls.{addresses_of}
 use Rattle.file_model.specs.operations.Falling.{is_among}
@@ -51,7 +51,7 @@ displayed-both (event ∷ one) other =
 -- ---- runs
 
 module _ (same : StructuredBehavesAsItself) (faultless : StructuredMeetsNoFault) (program : Program)
-    (structured : IsStructured (control_of program)) (files : Files) (sink : SinkCall) where
+    (structured : IsStructuredControl (control_of program)) (files : Files) (sink : SinkCall) where
   abbrev units_for : ℕ → ℕ
   units_for steps = (same program structured).units_per_step * (steps + 1)
 

@@ -3,7 +3,7 @@ use Rattle.std.specs.Prelude.{ℕ, ◌≡◌, false, List, ◌++◌}
 use Rattle.cob_base.specs.Sink.{SinkCall}
 use Rattle.cob_tree.specs.declared.program.Program.{Program}
 use Rattle.control_flow_theory.specs.language.Control.{control_of}
-use Rattle.control_flow_theory.specs.language.Structured.{IsStructured}
+use Rattle.control_flow_theory.specs.language.Structured.{IsStructuredControl}
 use Rattle.file_model.specs.World.{shelf_found}
 use Rattle.file_model.specs.operations.Calls.{addresses_of}
 use Rattle.file_model.specs.operations.Falling.{is_among}
@@ -44,7 +44,7 @@ ShowsNested program files sink _ = BeginsNested program files sink
 -- a run of a structured program shows what its nested statements do, whatever steps it makes
 abbrev pub RunsShowNestedStatements : Type 0
 RunsShowNestedStatements =
-    (program : Program) → IsStructured (control_of program) → (files : Files) (steps : ℕ)
+    (program : Program) → IsStructuredControl (control_of program) → (files : Files) (steps : ℕ)
     (sink : SinkCall) (came : Ran) → RunsAs program files steps sink came →
     ShowsNested program files sink came
 
@@ -70,7 +70,7 @@ ShowsNestedOver program files sink gone devices _ = BeginsNested program files s
 -- a run of a structured program over files shows what its nested statements show
 abbrev pub RunsOverFilesShowNestedStatements : Type 0
 RunsOverFilesShowNestedStatements =
-    (program : Program) → IsStructured (control_of program) → (files : Files) (steps : ℕ)
+    (program : Program) → IsStructuredControl (control_of program) → (files : Files) (steps : ℕ)
     (sink : SinkCall) (gone : List (List ℕ)) (devices : List Seen) (came : Ran) →
     ComesTo program files steps sink (LeavesFiles (addresses_of program.files) gone devices) came →
     ShowsNestedOver program files sink gone devices came

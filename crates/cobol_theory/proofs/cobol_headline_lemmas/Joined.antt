@@ -3,7 +3,7 @@ use Rattle.std.proofs.Common.{sym, subst}
 use Rattle.cob_tree.specs.declared.program.Program.{Program}
 use Rattle.control_flow_theory.specs.language.Control.{control_of}
 use Rattle.control_flow_theory.specs.language.Language as language
-use Rattle.control_flow_theory.specs.language.Structured.{IsStructured}
+use Rattle.control_flow_theory.specs.language.Structured.{IsStructuredControl}
 use Rattle.control_flow_theory.specs.lowering.FlowFacts.{IsTold, IsSource}
 use Rattle.control_flow_theory.specs.semantics.Structural.{structural}
 use Rattle.control_flow_theory.specs.semantics_agree.Same as meanings
@@ -79,7 +79,7 @@ module _ (program result : Program) (writing : Writing) (proper : IsProper progr
     stand = can.parts;
   }
 
-  over-control : IsStructured (written_by parts writing.plan (control_of program))
+  over-control : IsStructuredControl (written_by parts writing.plan (control_of program))
       × meanings.SameBehaviour (source_of parts (control_of program)) (result_of parts (written_by parts writing.plan (control_of program)))
   over-control = written-behaves (Carries declared writing.table) parts writing.plan (control_of program) can-be agree
 
@@ -100,5 +100,5 @@ module _ (program result : Program) (writing : Writing) (proper : IsProper progr
     back = behaves.back;
   }
 
-  pub alike : IsStructured (control_of result) × SameBehaviour program result
-  alike = (subst IsStructured (sym is.control) over-control.0, same)
+  pub alike : IsStructuredControl (control_of result) × SameBehaviour program result
+  alike = (subst IsStructuredControl (sym is.control) over-control.0, same)

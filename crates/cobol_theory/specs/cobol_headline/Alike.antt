@@ -4,8 +4,8 @@ use Rattle.cob_tree.specs.declared.program.Program.{Program}
 use Rattle.control_flow_theory.specs.language.Control.{control_of}
 use Rattle.control_flow_theory.specs.language.Language.{Picker, Range, Main}
 use Rattle.control_flow_theory.specs.language.OwnItems.{NamesOwnItems}
-use Rattle.control_flow_theory.specs.language.Structured.{IsStructured}
-use Rattle.control_flow_theory.specs.lowering.flow.Paths.{IsFaulty}
+use Rattle.control_flow_theory.specs.language.Structured.{IsStructuredControl}
+use Rattle.control_flow_theory.specs.lowering.flow.Paths.{HasFaultyRun}
 use Rattle.program_facts.specs.completion.FlowFacts.{flow_facts_of}
 use Rattle.control_flow_theory.specs.rendering.Rendering.{Empty, Naming, rendered}
 use Rattle.control_flow_theory.specs.rendering.Procedures.{Writable}
@@ -69,7 +69,7 @@ pub record CanBeWritten (program : Program) (writing : Writing) : Type 0 where
   -- the program has a paragraph
   pub some : 0 < length (control_of program).paragraphs
   -- no flow path comes to a fault
-  pub fair : IsFaulty writing.plan.told (control_of program) → ⊥
+  pub fair : HasFaultyRun writing.plan.told (control_of program) → ⊥
   pub planned : IsPlan writing.plan.told (control_of program) writing.plan.keep writing.plan.others
   -- each range after main is performed by a path of an earlier one
   pub called : CalledByPaths writing.plan.told (control_of program) (Main ∷ writing.plan.others)
@@ -96,4 +96,4 @@ abbrev pub WhatAProgramIsWrittenAsBehavesAlike : Type 0
 WhatAProgramIsWrittenAsBehavesAlike =
     (program result : Program) (writing : Writing) →
     IsProper program → CanBeWritten program writing → IsWrittenOf program result writing →
-    IsStructured (control_of result) × SameBehaviour program result
+    IsStructuredControl (control_of result) × SameBehaviour program result

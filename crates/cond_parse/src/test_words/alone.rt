@@ -258,20 +258,21 @@ fn literal_part(
     }
 }
 
-#[tactic(auto, unfolding(cobol_grammar::specs::cond_forms::Alone::part_by_shape))]
-fn part_by_shape(
+/// What an expression without a test after it is.
+#[tactic(auto, unfolding(cobol_grammar::specs::cond_forms::Alone::alone_part, cobol_grammar::specs::cond_forms::Alone::part_by_shape))]
+pub fn alone_part(
     alloc: Global,
     cursor: &mut Cursor<'_>,
-    shape: ExprForm,
     negated: bool,
     setting: Option<Setting>,
     side: Side,
     count: u32,
     pending_not: bool,
 ) -> Result<SimpleCond, Unread>
-    ensures { Reads ((alones.part_by_shape shape negated setting side count pending_not).reads
-        cursor.old) result cursor.new }
+    ensures { Reads ((alones.alone_part negated setting side count pending_not).reads cursor.old)
+        result cursor.new }
 {
+    let shape = shape_of(&side);
     match shape {
         ExprForm::Ref => ref_part(alloc, cursor, negated, setting, side, count, pending_not),
         ExprForm::Literal => literal_part(
@@ -293,33 +294,6 @@ fn part_by_shape(
             Err(Unread::Stop(Why::Syntax))
         }
     }
-}
-
-/// What an expression without a test after it is.
-#[tactic(auto, unfolding(cobol_grammar::specs::cond_forms::Alone::alone_part))]
-pub fn alone_part(
-    alloc: Global,
-    cursor: &mut Cursor<'_>,
-    negated: bool,
-    setting: Option<Setting>,
-    side: Side,
-    count: u32,
-    pending_not: bool,
-) -> Result<SimpleCond, Unread>
-    ensures { Reads ((alones.alone_part negated setting side count pending_not).reads cursor.old)
-        result cursor.new }
-{
-    let shape = shape_of(&side);
-    part_by_shape(
-        alloc,
-        cursor,
-        shape,
-        negated,
-        setting,
-        side,
-        count,
-        pending_not,
-    )
 }
 
 fn test_part(

@@ -10,13 +10,13 @@ use Rattle.control_flow_theory.specs.semantics.Source.{source_machine}
 use Rattle.control_flow_theory.specs.semantics.Graph.{Label, Tree, tree, End, Pick, Jump, Return, Stop, Dead, body_of, end_of, Family, IsLast}
 use Rattle.control_flow_theory.specs.semantics.Walk.{walk_machine, main_machine}
 use Rattle.control_flow_theory.specs.semantics.Structural.{structural}
-use Rattle.control_flow_theory.specs.language.Structured.{IsStructured}
+use Rattle.control_flow_theory.specs.language.Structured.{IsStructuredControl}
 use Rattle.control_flow_theory.specs.semantics_agree.Same.{SameBehaviour}
 use Rattle.control_flow_theory.specs.lowering.FlowFacts.{FlowFacts, IsTold, IsSource}
 use Rattle.control_flow_theory.specs.lowering.Lowered.{lowered}
 use Rattle.control_flow_theory.specs.lowering.Reached.{kept}
 use Rattle.control_flow_theory.specs.lowering.Renamed.{numbered_anew}
-use Rattle.control_flow_theory.specs.lowering.flow.Paths.{IsFaulty}
+use Rattle.control_flow_theory.specs.lowering.flow.Paths.{HasFaultyRun}
 use Rattle.control_flow_theory.specs.lowering.Laws.{IsSoundAt}
 use Rattle.control_flow_theory.specs.graph_rules.Walked.{is_in, In, Ordered, walked, walked_from}
 use Rattle.control_flow_theory.specs.graph_rules.Families.{Added, Has, MaySet, Ready, IsFamily, IsSound}
@@ -157,7 +157,7 @@ module _ {Memory Left : Type 0} (acting : Acting Memory) (left : Memory → Left
       (tied-trans (λ memory. walk_g (begins memory)) (λ memory. walk_h (begins memory)) (meaning (main_machine acting left h)) middle (tied-at begins walk_h (meaning (walk_machine acting left h Main)) three))
 
   module _ (told : FlowFacts) (program : Program) (keep : Range → Label → Bool) (numbers : Range → ℕ → ℕ) (added : Range → List Added) (others : List Range)
-      (is_told : IsTold told acting) (source : IsSource told program) (some : 0 < length program.paragraphs) (fair : IsFaulty told program → ⊥) (plan : IsNumberedPlan told program keep numbers added others) where
+      (is_told : IsTold told acting) (source : IsSource told program) (some : 0 < length program.paragraphs) (fair : HasFaultyRun told program → ⊥) (plan : IsNumberedPlan told program keep numbers added others) where
     abbrev graphs : Graphs
     graphs = lowered_graphs told program keep numbers added
 
@@ -199,10 +199,10 @@ module _ {Memory Left : Type 0} (acting : Acting Memory) (left : Memory → Left
 
 pub headline-over-control : {Memory Other Left World : Type 0} (acting : Acting Memory) (left : Memory → Left) (first : World → Memory) (result : Acting Other) (other_left : Other → Left) (other_first : World → Other) (Carries : Celled Memory → Other → Type 0) (naming : Naming) (kinds : Writable)
     (told : FlowFacts) (program : Program) (keep : Range → Label → Bool) (numbers : Range → ℕ → ℕ) (added : Range → List Added) (others : List Range) →
-    IsTold told acting → IsSource told program → 0 < length program.paragraphs → (IsFaulty told program → ⊥) →
+    IsTold told acting → IsSource told program → 0 < length program.paragraphs → (HasFaultyRun told program → ⊥) →
     IsNumberedPlan told program keep numbers added others →
     EachStands naming kinds (procedures_of (Main ∷ others) (lowered_graphs told program keep numbers added)) → EachIsPerformed (procedures_of (Main ∷ others) (lowered_graphs told program keep numbers added)) → Serves acting left first result other_left other_first Carries naming kinds →
-    IsStructured (rendered naming (procedures_of (Main ∷ others) (lowered_graphs told program keep numbers added)))
+    IsStructuredControl (rendered naming (procedures_of (Main ∷ others) (lowered_graphs told program keep numbers added)))
     × SameBehaviour (λ world. meaning (source_machine (alone acting) left program) (first world)) (λ world. structural (alone result) other_left (rendered naming (procedures_of (Main ∷ others) (lowered_graphs told program keep numbers added))) (other_first world))
 headline-over-control acting left first result other_left other_first Carries naming kinds told program keep numbers added others is_told source some fair plan stands performed serves =
     let graphs = lowered_graphs told program keep numbers added in

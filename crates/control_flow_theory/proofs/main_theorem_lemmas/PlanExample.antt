@@ -13,7 +13,7 @@ use Rattle.control_flow_theory.specs.lowering.WellFormed.{AreJustReached}
 use Rattle.control_flow_theory.specs.lowering.flow.Comes.{begins, enters, goes_on, goes_to, goes_to_end, over, falls}
 use Rattle.control_flow_theory.specs.lowering.Lowered.{lowered}
 use Rattle.control_flow_theory.specs.lowering.Reached.{JumpsTo, IsReached, entered, jumped}
-use Rattle.control_flow_theory.specs.lowering.flow.Paths.{Flow, flow, free, nothing_left, IsFaulty}
+use Rattle.control_flow_theory.specs.lowering.flow.Paths.{Flow, flow, free, nothing_left, HasFaultyRun}
 use Rattle.control_flow_theory.specs.lowering.flow.Entered.{FreelyComes, IsEntered, main, performed}
 use Rattle.control_flow_theory.specs.lowering.flow.Called.{IsCalled}
 use Rattle.control_flow_theory.specs.main_theorem.Chain.{IsNumberedPlan, lowered_graphs, CalledFromEarlier}
@@ -88,7 +88,7 @@ going : (n : ℕ) (ways : List ℕ) → iterate (source_step (free again_told) n
 going zero ways = refl
 going (suc n) ways = going n ways
 
-not-faulty : IsFaulty again_told again → ⊥
+not-faulty : HasFaultyRun again_told again → ⊥
 not-faulty f = let k = ap (λ (s : Flow). s.run.standing) (sym (going f.1 f.0)) ∙ f.3 in cc
 
 again-plan : IsNumberedPlan again_told again again_kept same_numbers no_added []

@@ -14,12 +14,12 @@ use Rattle.control_flow_theory.specs.semantics.Source.{SourceState, comes_to, go
 use Rattle.control_flow_theory.specs.semantics.Graph.{Family}
 use Rattle.control_flow_theory.specs.semantics.Walk.{walk_machine, main_machine}
 use Rattle.control_flow_theory.specs.semantics.Structural.{structural}
-use Rattle.control_flow_theory.specs.language.Structured.{IsStructured}
+use Rattle.control_flow_theory.specs.language.Structured.{IsStructuredControl}
 use Rattle.control_flow_theory.specs.semantics_agree.Same.{EndsFairly, SameBehaviour}
 use Rattle.control_flow_theory.specs.rendering.Rendering.{Naming, Procedure, rendered}
 use Rattle.control_flow_theory.specs.rendering.Procedures.{Writable, AreProcedures}
 use Rattle.control_flow_theory.specs.rendering.Serving.{Serves}
-use Rattle.control_flow_theory.specs.rendering.Laws.{IsNeverLost, NeverFaults, Follows, WalkAlike, IsRestructured}
+use Rattle.control_flow_theory.specs.rendering.Laws.{IsNeverLost, NeverFaults, Follows, WalkAlike, IsRestructuredControl}
 use Rattle.control_flow_theory.proofs.semantics_agree_lemmas.Agreement.{structured-tied}
 use Rattle.control_flow_theory.proofs.semantics_agree_lemmas.Tying.{tied-same}
 use Rattle.control_flow_theory.proofs.rendering_lemmas.Written.{walks_from, written_from, written-tied}
@@ -143,7 +143,7 @@ module _ {Memory Other Left World : Type 0} (acting : Acting Memory) (left : Mem
       (tied-at other_first (meaning (source_machine (alone result) other_left (rendered naming procedures))) (structural (alone result) other_left (rendered naming procedures))
       (structured-tied (alone result) other_left (rendered naming procedures) (rendered-structured naming kinds family procedures are)))
 
-  pub restructured-tied : (program : Program) (procedures : List Procedure) → NeverFaults acting left program → IsRestructured acting left program naming kinds procedures →
+  pub restructured-tied : (program : Program) (procedures : List Procedure) → NeverFaults acting left program → IsRestructuredControl acting left program naming kinds procedures →
       Tied (λ world. meaning (source_machine (alone acting) left program) (first world)) (shown procedures)
   restructured-tied program procedures fine h =
       let source = meaning (source_machine (alone acting) left program) in
@@ -153,7 +153,7 @@ module _ {Memory Other Left World : Type 0} (acting : Acting Memory) (left : Mem
       tied-trans (λ world. source (first world)) (λ world. shaped (first world)) (shown procedures) (tied-at first source shaped whole)
       (rendered-tied h.shaped procedures h.are (follows-sound acting left program h.shaped fine whole))
 
-  pub restructured-same : (program : Program) (procedures : List Procedure) → NeverFaults acting left program → IsRestructured acting left program naming kinds procedures →
-      IsStructured (rendered naming procedures) × SameBehaviour (λ world. meaning (source_machine (alone acting) left program) (first world)) (shown procedures)
+  pub restructured-same : (program : Program) (procedures : List Procedure) → NeverFaults acting left program → IsRestructuredControl acting left program naming kinds procedures →
+      IsStructuredControl (rendered naming procedures) × SameBehaviour (λ world. meaning (source_machine (alone acting) left program) (first world)) (shown procedures)
   restructured-same program procedures fine h =
       (rendered-structured naming kinds h.shaped procedures h.are, tied-same (λ world. meaning (source_machine (alone acting) left program) (first world)) (shown procedures) (restructured-tied program procedures fine h))

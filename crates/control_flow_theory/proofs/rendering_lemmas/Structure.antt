@@ -3,7 +3,7 @@ use Rattle.std.proofs.Common.{◌≡◌, ℕ, zero, suc, ◌+◌, ◌<◌, ◌�
 use Rattle.control_flow_theory.specs.language.Language.{Simple, If, By, ByCell, Stmt, Do, Choose, Loop, Perform, Go, GoDepending, NextSentence, ExitParagraph, ExitSection, ExitPerform, StopRun, Stmts, none, also, Arms, done, given, missing, Body, Nested, Performed, Paragraph, unless_absent, paragraph_at, Range, Main, Part, same_range}
 use Rattle.control_flow_theory.specs.semantics.Graph.{Family}
 use Rattle.control_flow_theory.specs.semantics.Graph as graph
-use Rattle.control_flow_theory.specs.language.Structured.{StmtNests, StmtsNest, ArmsNest, BodyNests, NamesLater, ParagraphsNest, EndsInStop, FirstStops, stmt_performs, stmts_perform, arms_perform, body_performs, paragraph_performs, IsStructured}
+use Rattle.control_flow_theory.specs.language.Structured.{StmtNests, StmtsNest, ArmsNest, BodyNests, NamesLater, ParagraphsNest, EndsInStop, FirstStops, stmt_performs, stmts_perform, arms_perform, body_performs, paragraph_performs, IsStructuredControl}
 use Rattle.control_flow_theory.specs.rendering.Rendering.{Empty, Continues, Stays, Goes, Naming, Procedure, place_of, required, written_arm, and_missing, whole_arms, picker_lacks, then_stmts, closing, written_stmt, written_stmts, written_arms, written_body, written_paragraph, rendered}
 use Rattle.control_flow_theory.specs.rendering.Procedures.{Writable, StmtStands, StmtsStand, StmtsLeft, ArmsStand, BodyStands, StmtChooses, BodyChooses, stmt_calls, stmts_call, arms_call, body_calls, FirstIsMain, AreProcedures}
 use Rattle.control_flow_theory.proofs.semantics_agree_lemmas.Agreement.{same_number}
@@ -253,7 +253,7 @@ module _ (naming : Naming) (kinds : Writable) (family : Family) (procedures : Li
         ap (λ o. paragraph_performs number (unless_absent o)) (map-get write procedures call.0 caller call.3) ∙ or-left (stmts_perform number sentence) false all,
       )
 
-  pub rendered-structured : IsStructured (rendered naming procedures)
+  pub rendered-structured : IsStructuredControl (rendered naming procedures)
   rendered-structured =
       let same = length-written write procedures in
       record {

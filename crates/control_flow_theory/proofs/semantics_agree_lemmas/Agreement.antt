@@ -16,7 +16,7 @@ use Rattle.control_flow_theory.specs.semantics.Items.{Way, On, Halts, Into, To, 
 use Rattle.control_flow_theory.specs.language.Items.{Pending, ends_at}
 use Rattle.control_flow_theory.specs.semantics.Source.{SourceState, rest_of, comes_to, goes, falls, source_step, source_machine, source_begun}
 use Rattle.control_flow_theory.specs.semantics.Structural.{Outcome, Went, Stands, nothing, behind, then_do, one_then, unit_of, stops, gets, acts, goes_round, turns, all_turns, first_turn, varying, loop_does, Performing, stmt_does, stmts_do, arm_does, body_does, paragraph_does, performing, program_does, run_of, structural}
-use Rattle.control_flow_theory.specs.language.Structured.{StmtNests, StmtsNest, ArmsNest, BodyNests, NamesLater, ParagraphNests, ParagraphsNest, EndsInStop, FirstStops, IsStructured}
+use Rattle.control_flow_theory.specs.language.Structured.{StmtNests, StmtsNest, ArmsNest, BodyNests, NamesLater, ParagraphNests, ParagraphsNest, EndsInStop, FirstStops, IsStructuredControl}
 use Rattle.control_flow_theory.proofs.semantics_lemmas.Growth.{source-grows}
 use Rattle.control_flow_theory.proofs.semantics_agree_lemmas.Pacing.{Enclosed, enclosed-tied}
 
@@ -551,7 +551,7 @@ module _ {Memory Left : Type 0} (doing : Doing Memory) (left : Memory → Left) 
   outcome-enclosed memory n (Went shown m units) stands h = absurd stands
   outcome-enclosed memory n (Stands shown standing) stands h = (h.0, h.1, h.2.0, h.2.1, omega (arith, h.4), (λ going. omega (arith, h.3 going)))
 
-  pub structured-enclosed : IsStructured program → Enclosed (structural doing left program) (meaning (source_machine doing left program))
+  pub structured-enclosed : IsStructuredControl program → Enclosed (structural doing left program) (meaning (source_machine doing left program))
   structured-enclosed structured = record {
     there = 4;
     back = 2;
@@ -561,7 +561,7 @@ module _ {Memory Left : Type 0} (doing : Doing Memory) (left : Memory → Left) 
   }
 
   -- the two meanings of a structured program are tied
-  pub structured-tied : IsStructured program → Tied (meaning (source_machine doing left program)) (structural doing left program)
+  pub structured-tied : IsStructuredControl program → Tied (meaning (source_machine doing left program)) (structural doing left program)
   structured-tied structured =
       tied-sym (structural doing left program) (meaning (source_machine doing left program))
       (enclosed-tied (structural doing left program) (meaning (source_machine doing left program)) (machine-steady (source_machine doing left program) (source-grows doing left program)) (structured-enclosed structured))

@@ -9,7 +9,7 @@ use Rattle.control_flow_theory.specs.semantics.Doing.{Doing}
 use Rattle.control_flow_theory.specs.language.Items.{Turning, Counted, Tests, Steps, StepsAfter}
 use Rattle.control_flow_theory.specs.semantics.Source.{source_machine}
 use Rattle.control_flow_theory.specs.semantics.Structural.{Outcome, Went, Stands, nothing, behind, then_do, one_then, unit_of, stops, gets, acts, goes_round, turns, all_turns, first_turn, varying, loop_does, Performing, stmt_does, stmts_do, arm_does, body_does, paragraph_does, performing, program_does, run_of, structural}
-use Rattle.control_flow_theory.specs.language.Structured.{IsStructured}
+use Rattle.control_flow_theory.specs.language.Structured.{IsStructuredControl}
 use Rattle.control_flow_theory.specs.semantics_agree.Same.{EndsFairly}
 use Rattle.control_flow_theory.proofs.semantics_agree_lemmas.Agreement.{structured-tied}
 
@@ -138,7 +138,7 @@ module _ {Memory Left : Type 0} (doing : Doing Memory) (left : Memory → Left) 
   faulted-over standing fault is going = cc
 
   -- a structured program meets no fault of its flow
-  pub structured-faultless : (program : Program) → IsStructured program → (memory : Memory) (n : ℕ) (fault : FlowFault) → (meaning (source_machine doing left program) memory n).standing ≢ Over (Faulted fault)
+  pub structured-faultless : (program : Program) → IsStructuredControl program → (memory : Memory) (n : ℕ) (fault : FlowFault) → (meaning (source_machine doing left program) memory n).standing ≢ Over (Faulted fault)
   structured-faultless program structured memory n fault is =
       let source = meaning (source_machine doing left program) in
       let comes = tied-comes source (structural doing left program) (structured-tied doing left program structured) memory (source memory n) (faulted-over (source memory n).standing fault is) (n, refl) in

@@ -10,7 +10,7 @@ use Rattle.control_flow_theory.specs.language.Items.{Turning, Counted, Tests, St
 use Rattle.control_flow_theory.specs.semantics.Items.{Way, On, Halts, Into, To, ToEnd, way_after, tried, on, first_turn, varying, loop_begins, turns, tests, steps_on, turn_way, stmt_way, item_way}
 use Rattle.control_flow_theory.specs.language.Items.{Pending, ends_at}
 use Rattle.control_flow_theory.specs.semantics.Source.{SourceState, rest_of, comes_to, goes, falls, end_step, source_step, source_begun}
-use Rattle.control_flow_theory.specs.language.Structured.{StmtNests, StmtsNest, ArmsNest, BodyNests, NamesLater, ParagraphNests, ParagraphsNest, EndsInStop, FirstStops, IsStructured}
+use Rattle.control_flow_theory.specs.language.Structured.{StmtNests, StmtsNest, ArmsNest, BodyNests, NamesLater, ParagraphNests, ParagraphsNest, EndsInStop, FirstStops, IsStructuredControl}
 use Rattle.control_flow_theory.specs.semantics_agree.Laws.{Returns}
 use Rattle.control_flow_theory.proofs.semantics_agree_lemmas.Agreement.{same_number}
 
@@ -132,7 +132,7 @@ module _ {Memory : Type 0} (doing : Doing Memory) (Such : ℕ → ℕ → Type 0
     keeps-item SentenceEnd items memory nests h = h
     keeps-item (Turn turning body) items memory nests h = keeps-remainder turning body items memory nests h
 
-module _ {Memory Left : Type 0} (doing : Doing Memory) (left : Memory → Left) (program : Program) (structured : IsStructured program) where
+module _ {Memory Left : Type 0} (doing : Doing Memory) (left : Memory → Left) (program : Program) (structured : IsStructuredControl program) where
   abbrev count : ℕ
   count = length program.paragraphs
 

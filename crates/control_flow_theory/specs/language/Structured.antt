@@ -101,7 +101,7 @@ paragraph_performs number (sentence ∷ sentences) =
     if stmts_perform number sentence then true else paragraph_performs number sentences
 
 -- what a result of restructuring is
-pub record IsStructured (program : Program) : Type 0 where
+pub record IsStructuredControl (program : Program) : Type 0 where
   -- no jump, one sentence a paragraph, and each PERFORM names one later paragraph
   pub nests : ParagraphsNest (length program.paragraphs) 0 program.paragraphs
   -- the first paragraph's last statement is STOP RUN

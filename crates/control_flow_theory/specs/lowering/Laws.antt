@@ -17,7 +17,7 @@ use Rattle.control_flow_theory.specs.lowering.Completes.{completes}
 use Rattle.control_flow_theory.specs.lowering.Lowered.{lowered}
 use Rattle.control_flow_theory.specs.lowering.Reached.{kept, AreReached}
 use Rattle.control_flow_theory.specs.lowering.Renamed.{numbered_anew}
-use Rattle.control_flow_theory.specs.lowering.flow.Paths.{IsFaulty}
+use Rattle.control_flow_theory.specs.lowering.flow.Paths.{HasFaultyRun}
 use Rattle.control_flow_theory.specs.lowering.flow.Entered.{FreelyComes, IsEntered, NamesWhatReturns}
 
 -- no run of the program meets a fault of its flow
@@ -89,7 +89,7 @@ LoweredMainIsSound Memory Left =
 abbrev pub NotFaultyHasNoFlowFault : Type 0 → Type 0 → Type 0
 NotFaultyHasNoFlowFault Memory Left =
     (acting : Acting Memory) (left : Memory → Left) (told : FlowFacts) (program : Program) →
-    IsTold told acting → IsSource told program → (IsFaulty told program → ⊥) →
+    IsTold told acting → IsSource told program → (HasFaultyRun told program → ⊥) →
     NoFlowFault acting left program
 
 -- the walk of the reached nodes of a program that isn't faulty does what the program does
@@ -98,7 +98,7 @@ LoweredFamilyKeepsMeaning Memory Left =
     (acting : Acting Memory) (left : Memory → Left) (told : FlowFacts) (program : Program)
     (keep : Range → Label → Bool) →
     IsTold told acting → IsSource told program → 0 < length program.paragraphs →
-    NamesWhatReturns told program → (IsFaulty told program → ⊥) →
+    NamesWhatReturns told program → (HasFaultyRun told program → ⊥) →
     AreReached (lowered told program) keep →
     Tied (meaning (source_machine (alone acting) left program))
     (meaning (main_machine acting left (kept keep (lowered told program))))
@@ -109,7 +109,7 @@ LoweredFamilyIsSound Memory Left =
     (acting : Acting Memory) (left : Memory → Left) (told : FlowFacts) (program : Program)
     (keep : Range → Label → Bool) →
     IsTold told acting → IsSource told program → 0 < length program.paragraphs →
-    NamesWhatReturns told program → (IsFaulty told program → ⊥) →
+    NamesWhatReturns told program → (HasFaultyRun told program → ⊥) →
     AreReached (lowered told program) keep →
     IsSoundAt acting left (kept keep (lowered told program)) Main
     × ((entry exit : ℕ) → IsEntered told program (Part entry exit) →
@@ -126,7 +126,7 @@ NumberedFamilyKeepsMeaning Memory Left =
     (acting : Acting Memory) (left : Memory → Left) (told : FlowFacts) (program : Program)
     (keep : Range → Label → Bool) (numbers : Range → ℕ → ℕ) →
     IsTold told acting → IsSource told program → 0 < length program.paragraphs →
-    NamesWhatReturns told program → (IsFaulty told program → ⊥) →
+    NamesWhatReturns told program → (HasFaultyRun told program → ⊥) →
     AreReached (lowered told program) keep → KeepsApart numbers →
     Tied (meaning (source_machine (alone acting) left program))
     (meaning (main_machine acting left

@@ -6,14 +6,14 @@ use Rattle.control_flow_theory.specs.language.Language.{Picker, Chooser, Program
 use Rattle.control_flow_theory.specs.semantics.Doing.{Acting, Celled, alone}
 use Rattle.control_flow_theory.specs.semantics.Source.{source_machine}
 use Rattle.control_flow_theory.specs.semantics.Structural.{structural}
-use Rattle.control_flow_theory.specs.language.Structured.{IsStructured}
+use Rattle.control_flow_theory.specs.language.Structured.{IsStructuredControl}
 use Rattle.control_flow_theory.specs.semantics_agree.Same.{SameBehaviour}
 use Rattle.control_flow_theory.specs.rendering.Rendering.{Empty, Naming, rendered}
 use Rattle.control_flow_theory.specs.semantics.Graph.{Label}
 use Rattle.control_flow_theory.specs.lowering.FlowFacts.{FlowFacts, MayGive, IsTold, IsSource}
 use Rattle.control_flow_theory.specs.lowering.Lowered.{lowered}
 use Rattle.control_flow_theory.specs.lowering.Reached.{IsReached}
-use Rattle.control_flow_theory.specs.lowering.flow.Paths.{IsFaulty}
+use Rattle.control_flow_theory.specs.lowering.flow.Paths.{HasFaultyRun}
 use Rattle.control_flow_theory.specs.lowering.flow.Entered.{IsEntered, NamesWhatReturns}
 use Rattle.control_flow_theory.specs.lowering.WellFormed.{IsRangeOf}
 use Rattle.control_flow_theory.specs.lowering.flow.Called.{IsCalled}
@@ -61,13 +61,13 @@ SomeResultByPaths Memory Left World =
     (told : FlowFacts) (program : Program) (keep : Range → Label → Bool) (numbers : Range → ℕ → ℕ)
     (added : Range → List Added) (others : List Range) →
     IsTold told acting → IsSource told program → 0 < length program.paragraphs →
-    (IsFaulty told program → ⊥) →
+    (HasFaultyRun told program → ⊥) →
     IsNumberedPlan told program keep numbers added others →
     let procedures =
     procedures_of (Main ∷ others) (lowered_graphs told program keep numbers added) in
     GivesSome told → CalledByPaths told program (Main ∷ others) →
     (result : Acting (Celled Memory)) × (naming : Naming) × (naming.empty ≡ empty)
-    × IsStructured (rendered naming procedures)
+    × IsStructuredControl (rendered naming procedures)
     × SameBehaviour (λ world. meaning (source_machine (alone acting) left program) (first world))
     (λ world. structural (alone result) (λ memory. left memory.own) (rendered naming procedures)
     (record { own = first world; cells = λ range cell. 0 }))

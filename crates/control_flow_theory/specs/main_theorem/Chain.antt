@@ -7,14 +7,14 @@ use Rattle.control_flow_theory.specs.semantics.Doing.{Acting, Celled, alone}
 use Rattle.control_flow_theory.specs.semantics.Source.{source_machine}
 use Rattle.control_flow_theory.specs.semantics.Graph.{Label, Tree, tree, End, Pick, Jump, Return, Stop, Dead, Trees, no_more, more, body_of, end_of}
 use Rattle.control_flow_theory.specs.semantics.Structural.{structural}
-use Rattle.control_flow_theory.specs.language.Structured.{IsStructured}
+use Rattle.control_flow_theory.specs.language.Structured.{IsStructuredControl}
 use Rattle.control_flow_theory.specs.semantics_agree.Same.{SameBehaviour}
 use Rattle.control_flow_theory.specs.lowering.FlowFacts.{FlowFacts, IsTold, IsSource}
 use Rattle.control_flow_theory.specs.lowering.Lower as lower
 use Rattle.control_flow_theory.specs.lowering.Lowered.{nodes_of, lowered}
 use Rattle.control_flow_theory.specs.lowering.Reached.{AreReached, kept_nodes}
 use Rattle.control_flow_theory.specs.lowering.Renamed.{tree_anew}
-use Rattle.control_flow_theory.specs.lowering.flow.Paths.{IsFaulty}
+use Rattle.control_flow_theory.specs.lowering.flow.Paths.{HasFaultyRun}
 use Rattle.control_flow_theory.specs.lowering.flow.Entered.{FreelyComes, IsEntered, NamesWhatReturns}
 use Rattle.control_flow_theory.specs.lowering.Laws.{KeepsApart}
 use Rattle.control_flow_theory.specs.lowering.WellFormed.{tree_count, IsFirstDead, AreJustReached}
@@ -405,13 +405,13 @@ TheHeadline {Memory} {Other} Carries Left World =
     (told : FlowFacts) (program : Program) (keep : Range → Label → Bool) (numbers : Range → ℕ → ℕ)
     (added : Range → List Added) (others : List Range) →
     IsTold told acting → IsSource told program → 0 < length program.paragraphs →
-    (IsFaulty told program → ⊥) →
+    (HasFaultyRun told program → ⊥) →
     IsNumberedPlan told program keep numbers added others →
     let procedures =
     procedures_of (Main ∷ others) (lowered_graphs told program keep numbers added) in
     EachStands naming kinds procedures → EachIsPerformed procedures →
     Serves acting left first result other_left other_first Carries naming kinds →
-    IsStructured (rendered naming procedures)
+    IsStructuredControl (rendered naming procedures)
     × SameBehaviour (λ world. meaning (source_machine (alone acting) left program) (first world))
     (λ world. structural (alone result) other_left (rendered naming procedures)
     (other_first world))
@@ -425,13 +425,13 @@ SomeResultBehaves Memory Left World =
     (told : FlowFacts) (program : Program) (keep : Range → Label → Bool) (numbers : Range → ℕ → ℕ)
     (added : Range → List Added) (others : List Range) →
     IsTold told acting → IsSource told program → 0 < length program.paragraphs →
-    (IsFaulty told program → ⊥) →
+    (HasFaultyRun told program → ⊥) →
     IsNumberedPlan told program keep numbers added others →
     let procedures =
     procedures_of (Main ∷ others) (lowered_graphs told program keep numbers added) in
     CalledFromEarlier (Main ∷ others) (lowered_graphs told program keep numbers added) →
     (result : Acting (Celled Memory)) × (naming : Naming) × (naming.empty ≡ empty)
-    × IsStructured (rendered naming procedures)
+    × IsStructuredControl (rendered naming procedures)
     × SameBehaviour (λ world. meaning (source_machine (alone acting) left program) (first world))
     (λ world. structural (alone result) (λ memory. left memory.own) (rendered naming procedures)
     (record { own = first world; cells = λ range cell. 0 }))

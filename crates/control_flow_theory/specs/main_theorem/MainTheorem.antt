@@ -9,10 +9,10 @@ use Rattle.control_flow_theory.specs.semantics.Doing.{Acting, Celled, alone}
 use Rattle.control_flow_theory.specs.semantics.Source.{source_machine}
 use Rattle.control_flow_theory.specs.semantics.Graph.{Label}
 use Rattle.control_flow_theory.specs.semantics.Structural.{structural}
-use Rattle.control_flow_theory.specs.language.Structured.{IsStructured}
+use Rattle.control_flow_theory.specs.language.Structured.{IsStructuredControl}
 use Rattle.control_flow_theory.specs.semantics_agree.Same.{SameBehaviour}
 use Rattle.control_flow_theory.specs.lowering.FlowFacts.{FlowFacts, IsTold, IsSource}
-use Rattle.control_flow_theory.specs.lowering.flow.Paths.{IsFaulty}
+use Rattle.control_flow_theory.specs.lowering.flow.Paths.{HasFaultyRun}
 use Rattle.control_flow_theory.specs.graph_rules.Reduced.{Graphs}
 use Rattle.control_flow_theory.specs.rendering.Rendering.{Empty, Naming, Procedure, rendered}
 use Rattle.control_flow_theory.specs.rendering.Procedures.{Writable}
@@ -68,7 +68,7 @@ pub record CanBeRestructured (plan : Plan) (program : Program) : Type 0 where
   -- there is a paragraph
   pub some : 0 < length program.paragraphs
   -- no flow path comes to a fault
-  pub fair : IsFaulty plan.told program → ⊥
+  pub fair : HasFaultyRun plan.told program → ⊥
   -- each chooser may give some arm
   pub chooses : GivesSome plan.told
   -- the plan is one for it
@@ -115,7 +115,7 @@ abbrev pub WhatIsWrittenBehavesAlike : {Memory Other : Type 0} → (Celled Memor
 WhatIsWrittenBehavesAlike {Memory} {Other} Carries Left World =
     (parts : Parts Memory Other Left World) (plan : Plan) (program : Program) →
     CanBeRestructured plan program → PartsAgree Carries parts plan program →
-    IsStructured (written_by parts plan program)
+    IsStructuredControl (written_by parts plan program)
     × SameBehaviour (source_of parts program) (result_of parts (written_by parts plan program))
 
 -- the result of a source's parts that keeps the cells beside its memory

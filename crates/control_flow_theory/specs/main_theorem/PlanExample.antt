@@ -6,11 +6,11 @@ use Rattle.control_flow_theory.specs.semantics.Doing.{Acting, Celled, alone}
 use Rattle.control_flow_theory.specs.semantics.Source.{source_machine}
 use Rattle.control_flow_theory.specs.semantics.Graph.{Label}
 use Rattle.control_flow_theory.specs.semantics.Structural.{structural}
-use Rattle.control_flow_theory.specs.language.Structured.{IsStructured}
+use Rattle.control_flow_theory.specs.language.Structured.{IsStructuredControl}
 use Rattle.control_flow_theory.specs.semantics_agree.Same.{SameBehaviour}
 use Rattle.control_flow_theory.specs.rendering.Rendering.{Empty, Naming, rendered}
 use Rattle.control_flow_theory.specs.lowering.FlowFacts.{FlowFacts, IsTold, IsSource}
-use Rattle.control_flow_theory.specs.lowering.flow.Paths.{IsFaulty}
+use Rattle.control_flow_theory.specs.lowering.flow.Paths.{HasFaultyRun}
 use Rattle.control_flow_theory.specs.graph_rules.Families.{Added}
 use Rattle.control_flow_theory.specs.main_theorem.Chain.{IsNumberedPlan, lowered_graphs, procedures_of}
 
@@ -44,7 +44,7 @@ no_added range = []
 
 -- this is a plan, of a source that isn't faulty
 abbrev pub APlanCanBeMade : Type 0
-APlanCanBeMade = IsSource again_told again × (IsFaulty again_told again → ⊥)
+APlanCanBeMade = IsSource again_told again × (HasFaultyRun again_told again → ⊥)
     × IsNumberedPlan again_told again again_kept same_numbers no_added []
 
 -- for any parts that do what is known of them, there is a structured result that behaves alike
@@ -56,7 +56,7 @@ ThePlanIsFollowed Memory Left World =
     procedures_of (Main ∷ []) (lowered_graphs again_told again again_kept same_numbers no_added)
     in
     (result : Acting (Celled Memory)) × (naming : Naming) × (naming.empty ≡ empty)
-    × IsStructured (rendered naming procedures)
+    × IsStructuredControl (rendered naming procedures)
     × SameBehaviour (λ world. meaning (source_machine (alone acting) left again) (first world))
     (λ world. structural (alone result) (λ memory. left memory.own) (rendered naming procedures)
     (record { own = first world; cells = λ range cell. 0 }))

@@ -4,7 +4,7 @@ use Rattle.cob_tree.specs.declared.calc.Calc.TheVariants as calc
 use Rattle.control_flow_theory.specs.language.Language.{Chooser, Read, Arith, Own, Set, Take, Lower, Holds, Is, Above, Picker, If, By, ByCell, Times, Until, Do, Choose, Loop, Perform, StopRun, Stmts, none, also, done, given, missing, Nested, Performed, Program, Range, Main, Part}
 use Rattle.control_flow_theory.specs.semantics.Parts.{says, is, amount}
 use Rattle.control_flow_theory.specs.semantics.Graph.{Tree, tree, Return, Stop, Family}
-use Rattle.control_flow_theory.specs.language.Structured.{IsStructured}
+use Rattle.control_flow_theory.specs.language.Structured.{IsStructuredControl}
 use Rattle.control_flow_theory.specs.rendering.Rendering.{Empty, Continues, Goes, Naming, Procedure, rendered}
 use Rattle.control_flow_theory.specs.rendering.Procedures.{Writable, AreProcedures}
 
@@ -179,4 +179,4 @@ IsWritable =
 
 -- the written program is structured
 abbrev pub IsThenStructured : Type 0
-IsThenStructured = (naming : Naming) → IsStructured (written_program naming)
+IsThenStructured = (naming : Naming) → IsStructuredControl (written_program naming)

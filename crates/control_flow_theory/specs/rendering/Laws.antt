@@ -10,7 +10,7 @@ use Rattle.control_flow_theory.specs.semantics.Source.{source_machine}
 use Rattle.control_flow_theory.specs.semantics.Graph.{Family}
 use Rattle.control_flow_theory.specs.semantics.Walk.{walk_machine, main_machine}
 use Rattle.control_flow_theory.specs.semantics.Structural.{structural}
-use Rattle.control_flow_theory.specs.language.Structured.{IsStructured}
+use Rattle.control_flow_theory.specs.language.Structured.{IsStructuredControl}
 use Rattle.control_flow_theory.specs.semantics_agree.Same.{EndsFairly, SameBehaviour}
 use Rattle.control_flow_theory.specs.rendering.Rendering.{Empty, Naming, Procedure, rendered}
 use Rattle.control_flow_theory.specs.rendering.Procedures.{Writable, AreProcedures}
@@ -55,7 +55,7 @@ MainWalksAlike Memory Left World =
 abbrev pub RenderingIsStructured : Type 0
 RenderingIsStructured =
     (naming : Naming) (kinds : Writable) (family : Family) (procedures : List Procedure) →
-    AreProcedures family naming kinds procedures → IsStructured (rendered naming procedures)
+    AreProcedures family naming kinds procedures → IsStructuredControl (rendered naming procedures)
 
 -- what follows a source that meets no fault is sound
 abbrev pub FollowersAreSound : Type 0 → Type 0 → Type 0
@@ -96,9 +96,9 @@ AnyPartsCanBeServed Memory Left World =
     (λ memory other. memory ≡ other) naming kinds
 
 -- the source is lowered to one family and that is shaped to another, whose procedures are written
-pub record IsRestructured {Memory Left : Type 0} (acting : Acting Memory) (left : Memory → Left)
-    (program : Program) (naming : Naming) (kinds : Writable) (procedures : List Procedure)
-    : Type 0 where
+pub record IsRestructuredControl {Memory Left : Type 0} (acting : Acting Memory)
+    (left : Memory → Left) (program : Program) (naming : Naming) (kinds : Writable)
+    (procedures : List Procedure) : Type 0 where
   -- the family that the source is lowered to
   pub lowered : Family
   -- the family that the rules make of it
@@ -117,9 +117,10 @@ RestructuringKeepsMeaning {Memory} {Other} Carries Left World =
     (acting : Acting Memory) (left : Memory → Left) (first : World → Memory) (result : Acting Other)
     (other_left : Other → Left) (other_first : World → Other) (naming : Naming) (kinds : Writable)
     (program : Program) (procedures : List Procedure) →
-    NeverFaults acting left program → IsRestructured acting left program naming kinds procedures →
+    NeverFaults acting left program →
+    IsRestructuredControl acting left program naming kinds procedures →
     Serves acting left first result other_left other_first Carries naming kinds →
-    IsStructured (rendered naming procedures)
+    IsStructuredControl (rendered naming procedures)
     × SameBehaviour
     (λ world. meaning (source_machine (alone acting) left program) (first world))
     (λ world. structural (alone result) other_left (rendered naming procedures)

@@ -6,7 +6,7 @@ use Rattle.control_flow_theory.specs.semantics.Doing.{Acting, Celled, alone}
 use Rattle.control_flow_theory.specs.semantics.Source.{source_machine}
 use Rattle.control_flow_theory.specs.semantics.Graph.{tree, Stop, Family}
 use Rattle.control_flow_theory.specs.semantics.Structural.{structural}
-use Rattle.control_flow_theory.specs.language.Structured.{IsStructured}
+use Rattle.control_flow_theory.specs.language.Structured.{IsStructuredControl}
 use Rattle.control_flow_theory.specs.semantics_agree.Same.{SameBehaviour}
 use Rattle.control_flow_theory.specs.rendering.Rendering.{Naming, Procedure, rendered}
 use Rattle.control_flow_theory.specs.rendering.Procedures.{Writable}
@@ -47,7 +47,7 @@ no_cells = record {
 abbrev pub TheJumpIsRestructured : Type 0
 TheJumpIsRestructured =
     (result : Acting (Celled ℕ)) × (naming : Naming)
-    × IsStructured (rendered naming (jumping_procedure ∷ []))
+    × IsStructuredControl (rendered naming (jumping_procedure ∷ []))
     × SameBehaviour (λ (n : ℕ). meaning (source_machine (alone small) (λ n. n) jumping_program) n)
     (λ (n : ℕ). structural (alone result) (λ memory. memory.own)
     (rendered naming (jumping_procedure ∷ [])) (record { own = n; cells = λ range cell. 0 }))

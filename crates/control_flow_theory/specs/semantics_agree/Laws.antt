@@ -9,7 +9,7 @@ use Rattle.control_flow_theory.specs.semantics.Doing.{Acting, Doing, alone}
 use Rattle.control_flow_theory.specs.language.Items.{Pending}
 use Rattle.control_flow_theory.specs.semantics.Source.{SourceState, source_step, source_begun, source_machine}
 use Rattle.control_flow_theory.specs.semantics.Structural.{structural}
-use Rattle.control_flow_theory.specs.language.Structured.{IsStructured}
+use Rattle.control_flow_theory.specs.language.Structured.{IsStructuredControl}
 use Rattle.control_flow_theory.specs.semantics_agree.Same.{EndsFairly, SameBehaviour}
 
 -- nested statements show more with more units, and what is over stays
@@ -26,20 +26,23 @@ NestedEndFairly Memory Left =
 -- the two meanings of a structured program are tied
 abbrev pub StructuredAgrees : Type 0 → Type 0 → Type 0
 StructuredAgrees Memory Left =
-    (doing : Doing Memory) (left : Memory → Left) (program : Program) → IsStructured program →
+    (doing : Doing Memory) (left : Memory → Left) (program : Program) →
+    IsStructuredControl program →
     Tied (meaning (source_machine doing left program)) (structural doing left program)
 
 -- a structured program behaves by steps as its nested statements do
 abbrev pub StructuredBehavesTheSame : Type 0 → Type 0 → Type 0
 StructuredBehavesTheSame Memory Left =
-    (acting : Acting Memory) (left : Memory → Left) (program : Program) → IsStructured program →
+    (acting : Acting Memory) (left : Memory → Left) (program : Program) →
+    IsStructuredControl program →
     SameBehaviour (meaning (source_machine (alone acting) left program))
     (structural (alone acting) left program)
 
 -- a structured program meets no fault of its flow, whatever its parts do, and so on every path
 abbrev pub StructuredMeetsNoFault : Type 0 → Type 0 → Type 0
 StructuredMeetsNoFault Memory Left =
-    (doing : Doing Memory) (left : Memory → Left) (program : Program) → IsStructured program →
+    (doing : Doing Memory) (left : Memory → Left) (program : Program) →
+    IsStructuredControl program →
     (memory : Memory) (n : ℕ) (fault : FlowFault) →
     (meaning (source_machine doing left program) memory n).standing ≢ Over (Faulted fault)
 
@@ -52,7 +55,8 @@ Returns state = (top : Pending) × (others : List Pending) × (state.pending ≡
 -- paragraph
 abbrev pub StructuredNeverFallsThrough : Type 0 → Type 0 → Type 0
 StructuredNeverFallsThrough Memory Left =
-    (doing : Doing Memory) (left : Memory → Left) (program : Program) → IsStructured program →
+    (doing : Doing Memory) (left : Memory → Left) (program : Program) →
+    IsStructuredControl program →
     (memory : Memory) (n : ℕ) →
     let state : SourceState Memory Left =
     iterate (source_step doing left program) n (source_begun doing left program memory) in

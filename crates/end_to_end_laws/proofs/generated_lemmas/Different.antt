@@ -10,7 +10,7 @@ use Rattle.std.proofs.lemmas.List.Sums.{list_all-from_AllPass}
 use Rattle.std.proofs.lemmas.Slice.Eq.{bytes_eq-Decides}
 use Rattle.cobol_lex.specs.Byte.{is_digit}
 use Rattle.cob_words.proofs.numbered_lemmas.NumberedLemmas.{decimal_is_digits}
-use Rattle.round_trip.specs.procedures.Names.{own_names, AreDifferent}
+use Rattle.round_trip.specs.procedures.Names.{header_names, AreDifferent}
 use Rattle.program_gen.specs.Generated.{next_of, group_word, groups_of, generated}
 
 -- ---- digits, a hyphen, and what stands behind it
@@ -60,7 +60,7 @@ apart group number other last g n o l h =
 either : (a b : Bool) → a ≡ false → b ≡ false → (a || b) ≡ false
 either a b h k = ap (λ x. x || b) h ∙ k
 
-none-of : (test : List ℕ → Bool) (count group x : ℕ) → ((later number : ℕ) → group ≤ later → later < group + count → number < 2 ^ 64 → test (group_word later number) ≡ false) → list_any test (own_names (groups_of count group x)) ≡ false
+none-of : (test : List ℕ → Bool) (count group x : ℕ) → ((later number : ℕ) → group ≤ later → later < group + count → number < 2 ^ 64 → test (group_word later number) ≡ false) → list_any test (header_names (groups_of count group x)) ≡ false
 none-of test zero group x h = refl
 none-of test (suc count) group x h =
     let one : (number : ℕ) → number < 2 ^ 64 → test (group_word group number) ≡ false = λ number small. h group number (omega arith) (omega arith) small in
@@ -73,7 +73,7 @@ none-of test (suc count) group x h =
 within : (group number last : ℕ) → group < 2 ^ 64 → number < last → last < 2 ^ 64 → bytes_eq (group_word group number) (group_word group last) ≡ false
 within group number last g less l = apart group number group last g (omega (arith, less, l)) g l (λ e f. omega (arith, f, less))
 
-groups-different : (count group x : ℕ) → group + count ≤ 1250 → AreDifferent (own_names (groups_of count group x))
+groups-different : (count group x : ℕ) → group + count ≤ 1250 → AreDifferent (header_names (groups_of count group x))
 groups-different zero group x small = tt
 groups-different (suc count) group x small =
     let g : group < 2 ^ 64 = omega (arith, small) in
@@ -88,12 +88,12 @@ groups-different (suc count) group x small =
       ),
     )
   where
-    new : (number : ℕ) → number < 2 ^ 64 → list_any (bytes_eq (group_word group number)) (own_names (groups_of count (suc group) (next_of (next_of (next_of x))))) ≡ false
+    new : (number : ℕ) → number < 2 ^ 64 → list_any (bytes_eq (group_word group number)) (header_names (groups_of count (suc group) (next_of (next_of (next_of x))))) ≡ false
     new number few =
         none-of (bytes_eq (group_word group number)) count (suc group) (next_of (next_of (next_of x)))
         (λ later last low high l. apart group number later last (omega (arith, small)) few (omega (arith, high, small)) l (λ e f. omega (arith, e, low)))
 
-pub different : (n : ℕ) → n ≤ 1249 → AreDifferent (own_names (generated n).paragraphs)
+pub different : (n : ℕ) → n ≤ 1249 → AreDifferent (header_names (generated n).paragraphs)
 different n small = (
   none-of (bytes_eq (codes "M")) n 1 n (λ later number low high few. refl),
   groups-different n 1 n (omega (arith, small)),

@@ -26,6 +26,14 @@ pub struct Segment {
     pub size: u64,
 }
 
+/// The point before a place of a range, and how the range goes on from it.
+#[derive(Clone, Copy)]
+pub struct RangePoint {
+    pub place: u32,
+    pub passing: Passing,
+    pub range: Range,
+}
+
 /// Follows the places as which the tree before a place goes on, up to one whose count is known or
 /// whose tree ends by itself, and answers that count. What it passed are the stretches.
 fn part_behind(
@@ -33,36 +41,34 @@ fn part_behind(
     known: &mut TreeSizeCache,
     stretches: &mut Vec<Segment>,
     spots: &[Continuation<'_>],
-    place: u32,
-    passing: Passing,
-    range: Range,
+    from: RangePoint,
     telling: &LoweringContext<'_>,
 ) -> Result<TreeCount, NoMemory>
     requires whole { IsWhole telling.now spots.now }
     requires known { IsKnown telling.now spots.now known.old }
     requires shared { known.old.shared ≡ true }
-    requires goes { GoesSo spots.now range place passing }
-    requires below { NodeJumpsBelow telling.now spots.now range (point place)
+    requires goes { GoesSo spots.now from.range from.place from.passing }
+    requires below { NodeJumpsBelow telling.now spots.now from.range (point from.place)
         (3 * length spots.now) }
     requires none { stretches.old.items ≡ [] }
-    ensures comes { IfOk result (ComesToPart telling.now spots.now known.new.jumps.items place
-        passing stretches.new.items) }
+    ensures comes { IfOk result (ComesToPart telling.now spots.now known.new.jumps.items
+        from.place from.passing stretches.new.items) }
     ensures known { IfOk result (λ part. IsKnown telling.now spots.now known.new) }
 {
-    let mut here = place;
+    let mut here = from.place;
     for _turn in 0..spots.len() {
-        match known.kept(here * 3, passing) {
+        match known.kept(here * 3, from.passing) {
             Some(part) => return Ok(part),
             None => {}
         }
-        let run = straight_run(alloc, spots, here, range, telling)?;
+        let run = straight_run(alloc, spots, here, from.range, telling)?;
         let StraightRun { tree, next } = run;
         match next {
             None => {
                 let counted = known.count(alloc, &tree);
                 drop(tree);
                 let part = counted?;
-                known.keep(here * 3, passing, part)?;
+                known.keep(here * 3, from.passing, part)?;
                 return Ok(part);
             }
             Some(next) => {
@@ -98,16 +104,12 @@ pub fn point_part(
     ensures known { IfOk result (λ part. IsKnown telling.now spots.now known.new) }
 {
     let mut stretches = Vec::new(alloc);
-    let mut part = part_behind(
-        alloc,
-        known,
-        &mut stretches,
-        spots,
+    let from = RangePoint {
         place,
         passing,
         range,
-        telling,
-    )?;
+    };
+    let mut part = part_behind(alloc, known, &mut stretches, spots, from, telling)?;
     while let Some(stretch) = stretches.pop() {
         part.size = part.size.saturating_add(stretch.size);
         known.keep(stretch.place * 3, passing, part)?;

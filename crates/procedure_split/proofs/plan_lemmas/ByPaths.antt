@@ -43,7 +43,7 @@ head-of : (ranges : List tree.Range) (first : tree.Range) → slice_get ranges 0
 head-of [] first e = absurd (let k : ⊥ = cc in k)
 head-of (range ∷ ranges) first e = (let same : range ≡ first = cc in ap (λ r. as_control r ∷ map as_control ranges) same)
 
-module _ (told : FlowFacts) (program : Program) (source : IsSource told program) (some : GivesSome told) (fine : theory.IsFaulty told program → ⊥) (summary : Summary) (is : IsSummary told.never_first program summary) where
+module _ (told : FlowFacts) (program : Program) (source : IsSource told program) (some : GivesSome told) (fine : theory.HasFaultyRun told program → ⊥) (summary : Summary) (is : IsSummary told.never_first program summary) where
   abbrev ranges : List RangeFacts
   ranges = summary.ranges
 

@@ -37,12 +37,12 @@ same-told files = λ i chooser. same-first files chooser i
 
 module _ (program : cobol.Program) (summary : Summary) (returning : List (List ℕ)) (order : List tree.Range) (items : NamesOwnItems program) (paragraphs : NamesOwnParagraphs program) (some : 0 < length (control_of program).paragraphs)
     (fine : IsFaulty (never_first_of program.files) (control_of program) → ⊥) where
-  no-fault : theory.IsFaulty (flow_facts_of program.files returning) (control_of program) → ⊥
+  no-fault : theory.HasFaultyRun (flow_facts_of program.files returning) (control_of program) → ⊥
   no-fault faulty = fine (subst (λ never. IsFaulty never (control_of program)) (sym (same-told program.files))
       (faulty-here (flow_facts_of program.files returning) (control_of program) (source (declared_in program) returning program items paragraphs) (gives-some (declared_in program) returning) faulty))
 
   pub cobol-planned : IsSummary (never_first_of program.files) (control_of program) summary → IsPlanOf summary.ranges returning order →
-      (theory.IsFaulty (flow_facts_of program.files returning) (control_of program) → ⊥) × IsPlannedByPaths (flow_facts_of program.files returning) (control_of program) returning order
+      (theory.HasFaultyRun (flow_facts_of program.files returning) (control_of program) → ⊥) × IsPlannedByPaths (flow_facts_of program.files returning) (control_of program) returning order
   cobol-planned is plan = (
     no-fault,
     planned (flow_facts_of program.files returning) (control_of program) (source (declared_in program) returning program items paragraphs) (gives-some (declared_in program) returning) no-fault summary

@@ -6,7 +6,7 @@ use Rattle.cob_tree.specs.declared.program.Range as code
 use Rattle.control_flow_theory.specs.language.Control.{control_of}
 use Rattle.control_flow_theory.specs.language.Language as language
 use Rattle.control_flow_theory.specs.language.Language.{Range, Main}
-use Rattle.control_flow_theory.specs.language.Structured.{IsStructured}
+use Rattle.control_flow_theory.specs.language.Structured.{IsStructuredControl}
 use Rattle.control_flow_theory.specs.lowering.FlowFacts.{IsSource}
 use Rattle.control_flow_theory.specs.graph_rules.Walked.{In}
 use Rattle.control_flow_theory.specs.graph_rules.Reduced.{Graphs, size}
@@ -254,7 +254,7 @@ module _ (program made : Program) (summary : Summary) (well : IsWellMade program
     control = made-written program made writing are-made;
   }
 
-  behaves : IsStructured (control_of made) × SameBehaviour program made
+  behaves : IsStructuredControl (control_of made) × SameBehaviour program made
   behaves = alike program made writing well.proper can-be is-written
 
 pub behave-alike : SplitProgramsBehaveAlike

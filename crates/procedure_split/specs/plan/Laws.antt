@@ -11,7 +11,7 @@ use Rattle.control_flow_theory.specs.lowering.Lowered.{lowered}
 use Rattle.control_flow_theory.specs.lowering.Reached.{AreReached}
 use Rattle.control_flow_theory.specs.lowering.WellFormed.{AreJustReached}
 use Rattle.control_flow_theory.specs.lowering.flow.Entered.{FreelyComes, IsEntered}
-use Rattle.control_flow_theory.specs.lowering.flow.Paths.{IsFaulty}
+use Rattle.control_flow_theory.specs.lowering.flow.Paths.{HasFaultyRun}
 use Rattle.control_flow_theory.specs.graph_rules.Walked.{In}
 use Rattle.control_flow_theory.specs.main_theorem.Chain.{CallsStandLater, IsPlan}
 use Rattle.control_flow_theory.specs.main_theorem.CallsReached.{GivesSome, CalledByPaths}
@@ -63,7 +63,7 @@ abbrev pub PlansAreByPaths : Type 0
 PlansAreByPaths =
     (told : FlowFacts) (program : Program) (summary : Summary) (returning : List (List ℕ))
     (order : List tree.Range) → IsSource told program → GivesSome told →
-    0 < length program.paragraphs → (IsFaulty told program → ⊥) →
+    0 < length program.paragraphs → (HasFaultyRun told program → ⊥) →
     IsSummary told.never_first program summary → IsPlanOf summary.ranges returning order →
     IsPlannedByPaths told program returning order
 
@@ -77,7 +77,7 @@ CobolPlansAreByPaths =
     (flow.IsFaulty (never_first_of program.files) (control_of program) → ⊥) →
     IsSummary (never_first_of program.files) (control_of program) summary →
     IsPlanOf summary.ranges returning order →
-    (IsFaulty (flow_facts_of program.files returning) (control_of program) → ⊥)
+    (HasFaultyRun (flow_facts_of program.files returning) (control_of program) → ⊥)
     × IsPlannedByPaths (flow_facts_of program.files returning) (control_of program) returning order
 
 -- such a program, with the nodes that are reached, has what the headline asks of its flow: it isn't
@@ -96,5 +96,5 @@ CobolProgramsHavePlans =
     AreReached (lowered told control) keep →
     ((range : Range) → In range (Main ∷ others_of order) →
     AreJustReached told control range (keep range)) →
-    (IsFaulty told control → ⊥) × IsPlan told control keep (others_of order)
+    (HasFaultyRun told control → ⊥) × IsPlan told control keep (others_of order)
     × CalledByPaths told control (Main ∷ others_of order)

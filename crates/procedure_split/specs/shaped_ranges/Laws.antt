@@ -39,7 +39,7 @@ pub record IsPlannedWith (program : cobol.Program) (returning : List (List ℕ))
   -- the ranges after main come in this order
   pub others : plan.others ≡ others_of order
   -- no flow path comes to a fault
-  pub fair : theory.IsFaulty plan.told (control_of program) → ⊥
+  pub fair : theory.HasFaultyRun plan.told (control_of program) → ⊥
   pub planned : IsPlan plan.told (control_of program) plan.keep plan.others
   -- each other range is performed by a path of an earlier one
   pub called : CalledByPaths plan.told (control_of program) (Main ∷ plan.others)

@@ -3,7 +3,7 @@ use Rattle.std.specs.Prelude.{◌≡◌, true, All, IsSome, None}
 use Rattle.cob_tree.specs.declared.program.Paragraph.{Paragraph}
 use Rattle.cob_tree.specs.declared.program.Program.{Program}
 use Rattle.control_flow_theory.specs.language.Control.{control_of}
-use Rattle.control_flow_theory.specs.language.Structured.{IsStructured}
+use Rattle.control_flow_theory.specs.language.Structured.{IsStructuredControl}
 use Rattle.program_facts.specs.whole_counts.Whole.{counts_whole}
 use Rattle.cobol_theory.specs.fit_programs.Fit.{IsFit}
 use Rattle.pending_returns.specs.declared.facts.Summary.{Summary}
@@ -25,7 +25,7 @@ abbrev pub SplitProgramsBehaveAlike : Type 0
 SplitProgramsBehaveAlike =
     (program made : Program) (summary : Summary) →
     IsWellMade program → IsFaultFree program summary → IsSplit program summary made →
-    IsStructured (control_of made) × SameBehaviour program made
+    IsStructuredControl (control_of made) × SameBehaviour program made
 
 -- the paragraph has a name, and is in no section
 abbrev pub StandsAlone : Paragraph → Type 0

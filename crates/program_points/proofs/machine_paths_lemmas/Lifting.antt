@@ -170,7 +170,7 @@ module _ (told : FlowFacts) (program : Program) (source : IsSource told program)
   lift p pending (steps_flow from to before after path fine step) rest stack h alike = lift-step from before to after step fine path (lift from before path) rest stack h alike
 
   abbrev Faults : Type 0
-  Faults = theory.IsFaulty told program
+  Faults = theory.HasFaultyRun told program
 
   -- one step more is a fault
   at-fault : (q : ℕ) (rest : List Item) (stack : List language.Pending) (fault : outcome.FlowFault) → Lifts q rest stack → (stepped (At q rest stack [])).run.standing ≡ Over (Faulted fault) → Faults

@@ -167,5 +167,5 @@ module _ (told : FlowFacts) (program : Program) (source : IsSource told program)
       goes-shows n (shows n) q x xs pending ways tr fault (item_way (free told) x xs ways)
       (tells told program q (length program.paragraphs) some x xs ways (own-path (point_at q (x ∷ xs)) (pending_here pending) x xs path (sym (u-again (x ∷ xs))))) path f
 
-  pub faulty-here : theory.IsFaulty told program → Faulty
+  pub faulty-here : theory.HasFaultyRun told program → Faulty
   faulty-here faulty = shows faulty.1 0 (rest_of program 0) [] faulty.0 [] faulty.2 (subst (λ p. Path p []) (sym (whole-rest told program source some 0)) begins_flow) faulty.3

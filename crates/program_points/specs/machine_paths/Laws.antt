@@ -29,5 +29,5 @@ LevelsAreTheTheorys =
 abbrev pub FaultyIsTheTheorys : Type 0
 FaultyIsTheTheorys =
     (told : FlowFacts) (program : Program) → IsSource told program → SomeArmIsGiven told →
-    (theory.IsFaulty told program → IsFaulty told.never_first program)
-    × (IsFaulty told.never_first program → theory.IsFaulty told program)
+    (theory.HasFaultyRun told program → IsFaulty told.never_first program)
+    × (IsFaulty told.never_first program → theory.HasFaultyRun told program)

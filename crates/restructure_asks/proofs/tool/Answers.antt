@@ -1,7 +1,8 @@
-use Rattle.std.proofs.Common.{◌≡◌, ◌∙◌, map, true, false, Some, ap, refl, subst}
+use Rattle.std.proofs.Common.{◌≡◌, ◌∙◌, true, false, Some, ap, refl, subst}
 use Rattle.cob_base.specs.Source.{source_call}
 use Rattle.cob_base.specs.Sink.{sink_call}
 use Rattle.file_model.specs.contracts.operations.watched.BoxDynDeviceWatched.TheImpl.{seen-value}
+use Rattle.restructure_core.specs.run.Bench.{bench_call}
 use Rattle.restructure_asks.specs.declared.ask.Ask.TheVariants.{Run, Generate, Trial}
 use Rattle.restructure_asks.specs.Ask.{is_run}
 use Rattle.restructure_asks.specs.Tool.{Ends, EndsWithFiles}
@@ -50,11 +51,10 @@ returns-in-Some-Run-clause-over g c =
     let source = source_call g.S.Source.left g.S.Source.faults c.args.source.now c.answer_run.new.source in
     let out = sink_call g.K.Sink.held g.K.Sink.faults c.args.out.now c.answer_run.new.out in
     let notes = sink_call g.N.Sink.held g.N.Sink.faults c.args.notes.now c.answer_run.new.notes in
-    let old = map (seen-value g.dyn-1).it c.args.bench.now.devices.items in
-    let new = map (seen-value g.dyn-1).it c.answer_run.new.bench.devices.items in
+    let bench = bench_call (seen-value g.dyn-1).it c.args.bench.now c.answer_run.new.bench in
     let same : Run c.in-Some-Run.steps ≡ c.in-Some-Run.field-0 = (let a = c.in-Some-Run.field-0-is in let b = c.in-Some-Run.steps-is in cc) in
-    subst (λ a. EndsWithFiles a source out notes c.args.bench.now.left c.answer_run.new.bench.left old new c.answer_run.result) c.in-Some-Run.ensures.asked
-    (subst (λ x. EndsWithFiles (Some x) source out notes c.args.bench.now.left c.answer_run.new.bench.left old new c.answer_run.result) same c.answer_run.ensures.over)
+    subst (λ a. EndsWithFiles a source out notes bench c.answer_run.result) c.in-Some-Run.ensures.asked
+    (subst (λ x. EndsWithFiles (Some x) source out notes bench c.answer_run.result) same c.answer_run.ensures.over)
 
 -- an ask to run is one to run
 pub returns-in-Some-Run-clause-unrun : goal.returns-in-Some-Run-clause-unrun

@@ -18,7 +18,7 @@ const ANSWERS: [Case; 16] = [
     Case { piece: 1, ..PLAIN },
     Case {
         words: &["--version"],
-        out: "Tumgaiba 0.1.0 (restructure_tool)\nproved with rattle-kit-13b logic dac8208d650f15bf\n",
+        out: "Tumgaiba 0.1.0 (restructure_tool)\nproved with rattle-kit-13f logic dac8208d650f15bf\n",
         ..PLAIN
     },
     Case {

@@ -341,33 +341,52 @@ fn a_listing_goes_to_its_device(rt: HostRuntime) -> Result<(), Fail> {
     Ok(())
 }
 
-// The list goes to a device of which that call fails: OPEN, WRITE or CLOSE.
+// A call of the disk, what is shown before it where it fails, and what is then in the list: OPEN of
+// both files, READ, WRITE, READ of a record that isn't listed, READ at the end, and CLOSE of both.
+const CALLS: [(u64, &str, Opened, Got); 8] = [
+    (1, "", Opened::Missing, Got::End),
+    (2, "", Opened::Missing, Got::End),
+    (3, "", Opened::Ready, Got::End),
+    (4, "", Opened::Ready, Got::End),
+    (5, "", Opened::Ready, Got::Bytes(13)),
+    (6, "", Opened::Ready, Got::Bytes(13)),
+    (7, TOTAL, Opened::Ready, Got::Bytes(13)),
+    (8, TOTAL, Opened::Ready, Got::Bytes(13)),
+];
+
+// The device has the hours as they were, and so much of the list.
+fn expect_files(rt: &impl Abort, device: &mut dyn Device, opened: Opened, got: Got) {
+    let mut hours = [0u8; 24];
+    assert!(rt; device.open_file(b"PAY.DAT", How::Input) == Opened::Ready);
+    assert!(rt; device.read_next(b"PAY.DAT", &mut hours) == Got::Bytes(24));
+    assert!(rt; hours.as_slice() == PAY.as_bytes());
+    let mut listed = [0u8; 20];
+    assert!(rt; device.open_file(b"LIST.DAT", How::Input) == opened);
+    assert!(rt; device.read_next(b"LIST.DAT", &mut listed) == got);
+    if got == Got::Bytes(13) {
+        assert!(rt; &listed[..13] == b"SMITH 0042000".as_slice());
+    }
+}
+
+// Beside NULL, which tells no files, a disk has exactly what was done before the call that failed.
 #[test]
 fn a_failed_call_leaves_what_was_done(rt: HostRuntime) -> Result<(), Fail> {
     let alloc = rt.alloc();
-    let cases = [
-        (1, "", Opened::Missing, Got::End),
-        (2, "", Opened::Ready, Got::End),
-        (3, TOTAL, Opened::Ready, Got::Bytes(13)),
-    ];
-    for (failing, shown, opened, got) in cases {
+    let (head, tail) = LISTING;
+    let source = format!(in alloc; "{head}LIST.DAT{tail}")?;
+    for (failing, shown, opened, got) in CALLS {
         let mut devices: Vec<Box<dyn Device>> = Vec::new(alloc);
+        let disk = device(alloc, "DISK", ("PAY.DAT", PAY), failing)?;
+        devices.push(Box::new(alloc, disk)?)?;
         let name = text(alloc, "NULL")?;
         devices.push(Box::new(alloc, NullDevice { name })?)?;
-        devices.push(Box::new(alloc, device(alloc, "DISK", ("PAY.DAT", PAY), 0)?)?)?;
-        devices.push(Box::new(alloc, device(alloc, "OUT", ("OTHER", ""), failing)?)?)?;
         let mut bench = Bench::new(devices);
-        let (head, tail) = LISTING;
-        let source = format!(in alloc; "{head}OUT:LIST.DAT{tail}")?;
-        let wanted = (Status::DeviceFault, shown, "DEVICE FAULT OUT\n");
+        let wanted = (Status::DeviceFault, shown, FAULT);
         check(&rt, alloc, source.as_bytes(), &mut bench, wanted)?;
-        assert_eq!(rt; bench.left, 2);
-        assert!(rt; bench.devices.len() > 2);
-        let held = &mut bench.devices[2];
-        let name = b"LIST.DAT";
-        let mut listed = [0u8; 20];
-        assert!(rt; held.open_file(name, How::Input) == opened);
-        assert!(rt; held.read_next(name, &mut listed) == got);
+        assert_eq!(rt; bench.left, 1);
+        assert!(rt; bench.devices.len() > 1);
+        assert!(rt; bench.devices[0].name() == b"NULL".as_slice());
+        expect_files(&rt, &mut *bench.devices[1], opened, got);
     }
     Ok(())
 }

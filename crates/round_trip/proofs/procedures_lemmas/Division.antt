@@ -39,7 +39,7 @@ use Rattle.cobol_grammar.proofs.PartLaws as part_laws
 use Rattle.grammar_laws.proofs.no_periods_lemmas.Plainly as plainly
 use Rattle.grammar_laws.proofs.no_periods_lemmas.Makers as makers
 use Rattle.round_trip.specs.spelling.stmt_spelling.Division.{is_bare_by}
-use Rattle.round_trip.specs.procedures.Names.{own_name, own_names, AreDifferent}
+use Rattle.round_trip.specs.procedures.Names.{own_name, header_names, AreDifferent}
 use Rattle.round_trip.specs.procedures.Outline.{MayFollow, is_bare, AreHeaded, AreOutlined}
 use Rattle.round_trip.specs.procedures.Own.{IsReadWith, without_indices}
 use Rattle.round_trip.specs.procedures.Told.{section_told}
@@ -85,19 +85,19 @@ none-apart e = absurd cc
 
 -- ---- what is found so far
 
-own-append : (list more : List Paragraph) → own_names (list ++ more) ≡ own_names list ++ own_names more
+own-append : (list more : List Paragraph) → header_names (list ++ more) ≡ header_names list ++ header_names more
 own-append [] more = refl
 own-append (p ∷ list) more =
     ap (λ l. own_name p.section ++ (own_name p.name ++ l)) (own-append list more)
-    ∙ (ap (λ l. own_name p.section ++ l) (sym (append_assoc (own_name p.name) (own_names list) (own_names more)))
-    ∙ sym (append_assoc (own_name p.section) (own_name p.name ++ own_names list) (own_names more)))
+    ∙ (ap (λ l. own_name p.section ++ l) (sym (append_assoc (own_name p.name) (header_names list) (header_names more)))
+    ∙ sym (append_assoc (own_name p.section) (own_name p.name ++ header_names list) (header_names more)))
 
 abbrev begun : Outline → Scan
 begun outline = section_told outline.pending 0 (paragraphs_plain outline.done procedures.start)
 
 record Core (outline : Outline) (scan : Scan) : Type 0 where
   told : plain scan ≡ begun outline
-  names : scan.found.names ≡ own_names outline.done ++ own_name outline.pending
+  names : scan.found.names ≡ header_names outline.done ++ own_name outline.pending
   different : AreDifferent scan.found.names
   paired : length scan.found.headers ≡ length scan.found.names
   laid : Laid outline
@@ -107,8 +107,8 @@ pending-told : (pending : Option (List ℕ)) (done : List Paragraph) → section
 pending-told None done = refl
 pending-told (Some section) done = sym (plain-append done (paragraph_of None (Some section) [] ∷ []) procedures.start)
 
-pending-names : (pending : Option (List ℕ)) (done : List Paragraph) → own_names done ++ own_name pending ≡ own_names (with_pending pending done)
-pending-names None done = append-nil (own_names done)
+pending-names : (pending : Option (List ℕ)) (done : List Paragraph) → header_names done ++ own_name pending ≡ header_names (with_pending pending done)
+pending-names None done = append-nil (header_names done)
 pending-names (Some section) done = sym (own-append done (paragraph_of None (Some section) [] ∷ []))
 
 pending-laid : (pending : Option (List ℕ)) (done : List Paragraph) (in_section : Bool) → Laid (outline_of done pending in_section) → (bare : Bool) × LaidTo (with_pending pending done) bare
@@ -169,7 +169,7 @@ filled-core done name in_section scan C (s ∷ found) f =
     let next = paragraph_of None (Some name) (s ∷ found) in
     record {
       told = unheaded-plain scan ∙ (ap (unheaded false) C.told ∙ sym (plain-append done (next ∷ []) procedures.start));
-      names = same-names scan.awaited ∙ (C.names ∙ (sym (own-append done (next ∷ [])) ∙ sym (append-nil (own_names (done ++ next ∷ [])))));
+      names = same-names scan.awaited ∙ (C.names ∙ (sym (own-append done (next ∷ [])) ∙ sym (append-nil (header_names (done ++ next ∷ [])))));
       different = subst AreDifferent (sym (same-names scan.awaited)) C.different;
       paired = ap length (same-headers scan.awaited) ∙ (C.paired ∙ ap length (sym (same-names scan.awaited)));
       laid = record { bare = false; laid = laid-more done C.laid.bare C.laid.laid next tt; settled = λ e. refl };
@@ -212,8 +212,8 @@ paragraph-core outline scan C name new found index =
     record {
       told = paragraph-plain name index scan ∙ (ap (procedures.paragraph_headed name 0) C.told
           ∙ (sym (named-settled found name 0 (begun outline)) ∙ sym (plain-append outline.done (next ∷ []) procedures.start)));
-      names = named-names name header table new ∙ (ap (λ l. l ++ name ∷ []) C.names ∙ (append_assoc (own_names outline.done) (own_name outline.pending) (name ∷ [])
-          ∙ (sym (own-append outline.done (next ∷ [])) ∙ sym (append-nil (own_names (outline.done ++ next ∷ []))))));
+      names = named-names name header table new ∙ (ap (λ l. l ++ name ∷ []) C.names ∙ (append_assoc (header_names outline.done) (own_name outline.pending) (name ∷ [])
+          ∙ (sym (own-append outline.done (next ∷ [])) ∙ sym (append-nil (header_names (outline.done ++ next ∷ []))))));
       different = named-different name header table new C.different;
       paired = named-paired name header table new C.paired;
       laid = record {
@@ -482,14 +482,14 @@ module _ (names : Names) (entries : List Entry) (table : ProcedureTable) (all : 
   -- what the paragraphs that are read tell themselves
   pub record IsTold (found : List Paragraph) : Type 0 where
     pub told : without_indices table ≡ closed (paragraphs_plain found procedures.start)
-    pub different : AreDifferent (own_names found)
+    pub different : AreDifferent (header_names found)
     pub outlined : AreOutlined found
 
   one-told : (list : List Paragraph) → paragraphs_plain list procedures.start ≡ paragraphs_plain (at_least_one list) procedures.start
   one-told [] = refl
   one-told (p ∷ list) = refl
 
-  one-names : (list : List Paragraph) → own_names list ≡ own_names (at_least_one list)
+  one-names : (list : List Paragraph) → header_names list ≡ header_names (at_least_one list)
   one-names [] = refl
   one-names (p ∷ list) = refl
 

@@ -18,7 +18,7 @@ use Rattle.symbol_tables.specs.declared.procedure_names.table.ProcedureTable.{Pr
 use Rattle.symbol_tables.specs.procedure_names.Procedures as procedures
 use Rattle.symbol_tables.specs.procedure_names.Procedures.{with_empty, with_name, at_least_one, closed}
 use Rattle.round_trip.specs.spelling.stmt_spelling.Division.{is_bare_by}
-use Rattle.round_trip.specs.procedures.Names.{own_name, own_names, AreDifferent}
+use Rattle.round_trip.specs.procedures.Names.{own_name, header_names, AreDifferent}
 use Rattle.round_trip.specs.procedures.Outline.{MayFollow, is_bare, AreHeaded, MayBegin, AreOutlined, HasProcedures}
 use Rattle.round_trip.specs.procedures.Told.{behind_section, sentences_told, paragraph_told, paragraphs_told, own_procedures}
 use Rattle.round_trip.proofs.procedures_lemmas.Finding.{Head, name_of, header_in, names_in, headers_in, with-new, new-name}
@@ -143,23 +143,23 @@ names-of-heads (Some name) None first index sections = refl
 names-of-heads None (Some section) first index sections = refl
 names-of-heads (Some name) (Some section) first index sections = refl
 
-pub names-are-own : (program : Program) (list : List Paragraph) (first index sections : ℕ) → names_in (heads program list first index sections) ≡ own_names list
+pub names-are-own : (program : Program) (list : List Paragraph) (first index sections : ℕ) → names_in (heads program list first index sections) ≡ header_names list
 names-are-own program [] first index sections = refl
 names-are-own program (p ∷ list) first index sections =
     let more = heads program list (first + 1) (index + units_count program p) (sections + length (starts_of p.section first)) in
     map-append name_of (heads_of p.name p.section first index sections) more
     ∙ (ap (λ l. l ++ names_in more) (names-of-heads p.name p.section first index sections)
     ∙ (ap (λ l. (own_name p.section ++ own_name p.name) ++ l) (names-are-own program list (first + 1) (index + units_count program p) (sections + length (starts_of p.section first)))
-    ∙ append_assoc (own_name p.section) (own_name p.name) (own_names list)))
+    ∙ append_assoc (own_name p.section) (own_name p.name) (header_names list)))
 
 -- the same names, those of the first paragraph in front
-moved : (front : List Head) (p : Paragraph) (list : List Paragraph) (first index sections : ℕ) → AreDifferent (names_in front ++ own_names (p ∷ list)) →
-    AreDifferent (names_in (front ++ heads_of p.name p.section first index sections) ++ own_names list)
+moved : (front : List Head) (p : Paragraph) (list : List Paragraph) (first index sections : ℕ) → AreDifferent (names_in front ++ header_names (p ∷ list)) →
+    AreDifferent (names_in (front ++ heads_of p.name p.section first index sections) ++ header_names list)
 moved front p list first index sections d =
     let here = heads_of p.name p.section first index sections in
-    let same : names_in front ++ own_names (p ∷ list) ≡ names_in (front ++ here) ++ own_names list =
-    ap (λ l. names_in front ++ l) (sym (append_assoc (own_name p.section) (own_name p.name) (own_names list)) ∙ ap (λ l. l ++ own_names list) (sym (names-of-heads p.name p.section first index sections)))
-    ∙ (sym (append_assoc (names_in front) (names_in here) (own_names list)) ∙ ap (λ l. l ++ own_names list) (sym (map-append name_of front here))) in
+    let same : names_in front ++ header_names (p ∷ list) ≡ names_in (front ++ here) ++ header_names list =
+    ap (λ l. names_in front ++ l) (sym (append_assoc (own_name p.section) (own_name p.name) (header_names list)) ∙ ap (λ l. l ++ header_names list) (sym (names-of-heads p.name p.section first index sections)))
+    ∙ (sym (append_assoc (names_in front) (names_in here) (header_names list)) ∙ ap (λ l. l ++ header_names list) (sym (map-append name_of front here))) in
     subst AreDifferent same d
 
 -- where so many paragraphs stand, whatever follows them
@@ -170,7 +170,7 @@ as-stand : (f g : List Head) (s u : List ℕ) (m n : ℕ) (scan : Scan) → f �
 as-stand f g s u m n scan e i k S = subst (λ x. Stand x u n scan) e (subst (λ x. Stand f x n scan) i (subst (λ x. Stand f s x scan) k S))
 
 all-stand : (program : Program) (list : List Paragraph) (bare : Bool) → AreHeaded bare list → (front : List Head) (sections : List ℕ) (number index : ℕ) (scan : Scan) → Stands bare front sections number scan →
-    AreDifferent (names_in front ++ own_names list) →
+    AreDifferent (names_in front ++ header_names list) →
     Stand (front ++ heads program list number index (length sections)) (sections ++ starts list number) (number + length list) (paragraphs_told program list index scan)
 all-stand program [] bare a front sections number index scan S d =
     let none : number ≡ number + 0 = omega arith in
@@ -179,7 +179,7 @@ all-stand program (p ∷ list) bare a front sections number index scan S d =
     let here = heads_of p.name p.section number index (length sections) in
     let began = starts_of p.section number in
     let i = index + units_count program p in
-    let T = headed-stands bare p.name p.section p.sentences a.0 front sections number index scan S (own_names list) d in
+    let T = headed-stands bare p.name p.section p.sentences a.0 front sections number index scan S (header_names list) d in
     let more = all-stand program list (is_bare p) a.1 (front ++ here) (sections ++ began) (number + 1) i (paragraph_told p.name p.section p.sentences index scan) T (moved front p list number index (length sections) d) in
     let count : (number + 1) + length list ≡ number + length (p ∷ list) = omega arith in
     let found : (front ++ here) ++ heads program list (number + 1) i (length (sections ++ began)) ≡ front ++ (here ++ heads program list (number + 1) i (length sections + length began)) =
@@ -208,7 +208,7 @@ module _ (program : Program) where
   abbrev pub Own : List Paragraph → ℕ → ProcedureTable → Type 0
   Own list taken table = table ≡ table_of (heads program list 0 taken 0) (starts list 0) (length list)
 
-  headed-own : (p : Paragraph) (list : List Paragraph) (taken : ℕ) → AreHeaded false (p ∷ list) → AreDifferent (own_names (p ∷ list)) → Own (p ∷ list) taken (closed (paragraphs_told program (p ∷ list) taken procedures.start))
+  headed-own : (p : Paragraph) (list : List Paragraph) (taken : ℕ) → AreHeaded false (p ∷ list) → AreDifferent (header_names (p ∷ list)) → Own (p ∷ list) taken (closed (paragraphs_told program (p ∷ list) taken procedures.start))
   headed-own p list taken a d =
       let count : 0 + length (p ∷ list) ≡ length (p ∷ list) = omega arith in
       let some : length (p ∷ list) ≡ suc (length list) = omega arith in
@@ -219,7 +219,7 @@ module _ (program : Program) where
   unnamed sentences = record { name = None; section = None; sentences = sentences }
 
   -- a first paragraph without name and section
-  filled-own : (sentences : List Sentence) (list : List Paragraph) (taken : ℕ) → is_filled sentences ≡ true → AreHeaded false list → AreDifferent (own_names list) →
+  filled-own : (sentences : List Sentence) (list : List Paragraph) (taken : ℕ) → is_filled sentences ≡ true → AreHeaded false list → AreDifferent (header_names list) →
       Own (unnamed sentences ∷ list) taken (closed (paragraphs_told program (unnamed sentences ∷ list) taken procedures.start))
   filled-own sentences list taken f a d =
       let i = taken + units_count program (unnamed sentences) in
@@ -229,21 +229,21 @@ module _ (program : Program) where
       (all-stand program list false a [] [] 1 i (sentences_told sentences procedures.start) (unnamed-stands sentences f) d)
       ∙ ap (λ n. table_of (heads program list 1 i 0) (starts list 1) n) count
 
-  unnamed-own : (sentences : List Sentence) (list : List Paragraph) (taken : ℕ) → (is_filled sentences ≡ true) ⊎ (list ≡ []) → AreHeaded false list → AreDifferent (own_names list) →
+  unnamed-own : (sentences : List Sentence) (list : List Paragraph) (taken : ℕ) → (is_filled sentences ≡ true) ⊎ (list ≡ []) → AreHeaded false list → AreDifferent (header_names list) →
       Own (unnamed sentences ∷ list) taken (closed (paragraphs_told program (unnamed sentences ∷ list) taken procedures.start))
   unnamed-own sentences list taken (inl f) a d = filled-own sentences list taken f a d
   unnamed-own [] list taken (inr none) a d = subst (λ l. Own (unnamed [] ∷ l) taken (closed (paragraphs_told program (unnamed [] ∷ l) taken procedures.start))) (sym none) refl
   unnamed-own (s ∷ sentences) list taken (inr none) a d = filled-own (s ∷ sentences) list taken refl a d
 
   first-own : (name section : Option (List ℕ)) (sentences : List Sentence) (list : List Paragraph) (taken : ℕ) → MayBegin name section (record { name = name; section = section; sentences = sentences }) list →
-      AreDifferent (own_names (record { name = name; section = section; sentences = sentences } ∷ list)) →
+      AreDifferent (header_names (record { name = name; section = section; sentences = sentences } ∷ list)) →
       Own (record { name = name; section = section; sentences = sentences } ∷ list) taken (closed (paragraphs_told program (record { name = name; section = section; sentences = sentences } ∷ list) taken procedures.start))
   first-own None None sentences list taken f d = unnamed-own sentences list taken f.0 f.1 d
   first-own (Some name) None sentences list taken f d = headed-own (record { name = Some name; section = None; sentences = sentences }) list taken f d
   first-own None (Some section) sentences list taken f d = headed-own (record { name = None; section = Some section; sentences = sentences }) list taken f d
   first-own (Some name) (Some section) sentences list taken f d = headed-own (record { name = Some name; section = Some section; sentences = sentences }) list taken f d
 
-  all-own : (list : List Paragraph) (taken : ℕ) → AreOutlined list → AreDifferent (own_names list) → Own list taken (closed (paragraphs_told program list taken procedures.start))
+  all-own : (list : List Paragraph) (taken : ℕ) → AreOutlined list → AreDifferent (header_names list) → Own list taken (closed (paragraphs_told program list taken procedures.start))
   all-own [] taken o d = absurd o
   all-own (p ∷ list) taken o d = first-own p.name p.section p.sentences list taken o d
 

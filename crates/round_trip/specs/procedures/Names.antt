@@ -13,10 +13,10 @@ own_name None = []
 own_name (Some name) = name ∷ []
 
 -- the names of paragraphs and sections, in the order of their headers
-abbrev pub own_names : List Paragraph → List (List ℕ)
-own_names [] = []
-own_names (paragraph ∷ paragraphs) =
-    own_name paragraph.section ++ (own_name paragraph.name ++ own_names paragraphs)
+abbrev pub header_names : List Paragraph → List (List ℕ)
+header_names [] = []
+header_names (paragraph ∷ paragraphs) =
+    own_name paragraph.section ++ (own_name paragraph.name ++ header_names paragraphs)
 
 -- none comes twice
 abbrev pub AreDifferent : List (List ℕ) → Type 0

@@ -4,7 +4,7 @@ use Rattle.cob_tree.specs.declared.program.Paragraph.{Paragraph}
 use Rattle.cob_tree.specs.declared.program.Program.{Program}
 use Rattle.program_facts.specs.well_scoped.Part.{is_filled}
 use Rattle.round_trip.specs.spelling.stmt_spelling.Division.{is_bare_by}
-use Rattle.round_trip.specs.procedures.Names.{own_names, AreDifferent, AreTitled}
+use Rattle.round_trip.specs.procedures.Names.{header_names, AreDifferent, AreTitled}
 
 -- the paragraph may come next: after a section of which nothing else is printed only a section may
 abbrev pub MayFollow : (bare : Bool) → (name section : Option (List ℕ)) → Type 0
@@ -48,4 +48,4 @@ pub record HasProcedures (program : Program) : Type 0 where
   -- their names may be names of headers
   pub titled : AreTitled program.paragraphs
   -- no name comes twice
-  pub different : AreDifferent (own_names program.paragraphs)
+  pub different : AreDifferent (header_names program.paragraphs)

@@ -8,7 +8,7 @@ use Rattle.symbol_tables.specs.declared.procedure_names.table.Header.{Header}
 use Rattle.symbol_tables.specs.declared.procedure_names.table.ProcedureTable.{ProcedureTable}
 use Rattle.cobol_grammar.specs.Name.{procedure_of}
 use Rattle.round_trip.specs.spelling.Named.{IsHeader, IsLabel, IsRange}
-use Rattle.round_trip.specs.procedures.Names.{own_names, AreDifferent}
+use Rattle.round_trip.specs.procedures.Names.{header_names, AreDifferent}
 use Rattle.round_trip.specs.procedures.Outline.{AreOutlined}
 use Rattle.round_trip.specs.procedures.Told.{behind_section, own_procedures}
 
@@ -53,7 +53,7 @@ pub record IsReadWith (source : ProcedureTable) (found : List Paragraph) : Type 
   -- the paragraphs are told apart by their headers
   pub outlined : AreOutlined found
   -- no name comes twice
-  pub different : AreDifferent (own_names found)
+  pub different : AreDifferent (header_names found)
   -- their table is the same but for places
   pub same : (program : Program) (taken : ℕ) → program.paragraphs ≡ found →
       without_indices source ≡ without_indices (own_procedures program taken)

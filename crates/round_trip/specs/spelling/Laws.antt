@@ -1,5 +1,6 @@
 -- What holds of the parts of statements that a program is read with.
 use Rattle.std.specs.Prelude.{ℕ, ◌≡◌, ◌≤◌, true, List}
+use Rattle.cob_base.specs.Limit.{max_terms}
 use Rattle.cob_tree.specs.declared.cond.Cond.{Cond}
 use Rattle.cob_tree.specs.declared.entry.Entry.{Entry}
 use Rattle.cob_tree.specs.declared.place.Expr.{Expr}
@@ -19,7 +20,7 @@ use Rattle.round_trip.specs.spelling.stmt_spelling.Part.{PartsAreTold, SpellsOpe
 use Rattle.round_trip.specs.spelling.stmt_spelling.Division.{AtEnd, SpellsHeader, SpellsDivision}
 use Rattle.round_trip.specs.spelling.stmt_spelling.Stmt.{CountsTurns}
 use Rattle.round_trip.specs.spelling.expr_spelling.Printable.{IsPrintableExpr, IsPrintableOperand, IsPrintablePlace}
-use Rattle.round_trip.specs.spelling.expr_spelling.Spelled.{PlaceHasRoom, OperandHasRoom}
+use Rattle.round_trip.specs.spelling.expr_spelling.Spelled.{paren_levels, PlaceHasRoom, OperandHasRoom}
 use Rattle.round_trip.specs.spelling.cond_spelling.Printable.{IsPrintableCond}
 use Rattle.round_trip.specs.spelling.Kept.{kept_of}
 use Rattle.round_trip.specs.spelling.Named.{IsNamedFile, IsNamedRecord, IsHeader, IsLabel, IsRange}
@@ -35,19 +36,19 @@ PartsOfAreTold =
 pub record PartsAreSpelled : Type 0 where
   pub operand : (names : Names) (entries : List Entry) (table : ProcedureTable)
       (program : Program) (operand : Operand) → IsPrintableOperand names program operand →
-      OperandHasRoom true 501 1 operand →
+      OperandHasRoom true paren_levels 1 operand →
       SpellsOperand (parts_of names entries table) (kept_of names program) program operand
   pub place : (names : Names) (entries : List Entry) (table : ProcedureTable)
       (program : Program) (place : Place) → IsPrintablePlace names program place →
-      PlaceHasRoom true 501 0 place →
+      PlaceHasRoom true paren_levels 0 place →
       SpellsPlace (parts_of names entries table) (kept_of names program) program place
   pub expr : (names : Names) (entries : List Entry) (table : ProcedureTable)
       (program : Program) (expr : Expr) → IsPrintableExpr names program expr →
-      expr_terms expr ≤ 500 →
+      expr_terms expr ≤ max_terms →
       SpellsExpr (parts_of names entries table) (kept_of names program) program expr
   pub cond : (names : Names) (entries : List Entry) (table : ProcedureTable)
       (program : Program) (cond : Cond) → IsPrintableCond names program cond →
-      cond_terms cond ≤ 500 →
+      cond_terms cond ≤ max_terms →
       SpellsCond (parts_of names entries table) (kept_of names program) program cond
   pub file : (names : Names) (entries : List Entry) (table : ProcedureTable)
       (program : Program) (file : ℕ) → IsNamedFile names program file →
@@ -67,7 +68,7 @@ pub record PartsAreSpelled : Type 0 where
   -- what counts an inline PERFORM
   pub turns : (names : Names) (entries : List Entry) (table : ProcedureTable)
       (program : Program) (count : Operand) → IsPrintableOperand names program count →
-      OperandHasRoom true 501 0 count →
+      OperandHasRoom true paren_levels 0 count →
       CountsTurns (parts_of names entries table) (kept_of names program) program count
 
 -- no fault is noted of uses that fit their kinds
@@ -79,11 +80,12 @@ pub record UsesAreFree : Type 0 where
 
 -- What has at most the terms of a whole program's limit has room; an operand counts as one itself.
 pub record TermsHaveRoom : Type 0 where
-  pub place : (place : Place) → place_most place ≤ 500 → PlaceHasRoom true 501 0 place
+  pub place : (place : Place) → place_most place ≤ max_terms →
+      PlaceHasRoom true paren_levels 0 place
   pub operand : (operand : Operand) → operand_most operand ≤ 499 →
-      OperandHasRoom true 501 1 operand
-  pub turns : (operand : Operand) → operand_most operand ≤ 500 →
-      OperandHasRoom true 501 0 operand
+      OperandHasRoom true paren_levels 1 operand
+  pub turns : (operand : Operand) → operand_most operand ≤ max_terms →
+      OperandHasRoom true paren_levels 0 operand
 
 -- the procedure division of a program, over parts that spell what they are to
 abbrev pub ProceduresAreSpelled : Type 0

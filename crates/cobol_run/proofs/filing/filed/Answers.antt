@@ -1,7 +1,7 @@
 use Rattle.std.proofs.lemmas.Result.{err_from_is_err_and}
 use Rattle.cobol_run.specs.Plan.{declared_by}
-use Rattle.cobol_run.proofs.FiledLemmas.{closes_break, closes_over, opens_break, opens_over, rewritten_break, rewritten_over, written_break, written_over}
-use Rattle.cobol_run.proofs.ReadLemmas.{arm_break, read_break, read_over}
+use Rattle.cobol_run.proofs.FiledLemmas.{closes_break, closes_keep, closes_over, opens_break, opens_keep, opens_over, rewritten_break, rewritten_keep, rewritten_over, written_break, written_keep, written_over}
+use Rattle.cobol_run.proofs.ReadLemmas.{arm_break, read_break, read_keep, read_over}
 use Rattle.cobol_run.proofs.filing.filed.Goals as goal
 
 pub returns-in-Opens-clause-over : goal.returns-in-Opens-clause-over
@@ -49,3 +49,23 @@ returns-in_err-done-in-Read-clause-breaks g c = λ world outer over.
     let p = err_from_is_err_and c.from_residual.result c.from_residual.ensures.1 in
     rw (p.1, p.2)
     (read_break (declared_by c.args.plan.now) _ _ _ c.args.held.now.store world c.args.stmt.now c.in-Read.is c.in_err-done-in-Read.field-0.0 _ _ _ _ _ _ _ c.place_of.ensures c.is_some.ensures (c.in_err-done-in-Read.ensures.breaks world over))
+
+pub returns-in-Opens-clause-logged : goal.returns-in-Opens-clause-logged
+returns-in-Opens-clause-logged g c = λ world last outer over.
+    opens_keep (declared_by c.args.plan.now) c.args.stmt.now c.args.held.now.store world c.all_opened.result c.args.work.now c.all_opened.new.work last _ _ c.as_slice.ensures c.in-Opens.is (c.all_opened.ensures.logged world over)
+
+pub returns-in-Closes-clause-logged : goal.returns-in-Closes-clause-logged
+returns-in-Closes-clause-logged g c = λ world last outer over.
+    closes_keep (declared_by c.args.plan.now) c.args.stmt.now c.args.held.now.store world c.all_shut.result c.args.work.now c.all_shut.new.work last _ _ c.as_slice-in-Closes.ensures c.in-Closes.is (c.all_shut.ensures.logged world over)
+
+pub returns-in-Write-clause-logged : goal.returns-in-Write-clause-logged
+returns-in-Write-clause-logged g c = λ world last outer over.
+    written_keep (declared_by c.args.plan.now) c.args.stmt.now c.args.held.now.store world c.written.result c.args.work.now c.written.new.work last _ _ _ c.as_ref.ensures.value c.in-Write.is (c.written.ensures.logged world over)
+
+pub returns-in-Rewrite-clause-logged : goal.returns-in-Rewrite-clause-logged
+returns-in-Rewrite-clause-logged g c = λ world last outer over.
+    rewritten_keep (declared_by c.args.plan.now) c.args.stmt.now c.args.held.now.store world c.rewritten.result c.args.work.now c.rewritten.new.work last _ _ _ c.as_ref-in-Rewrite.ensures.value c.in-Rewrite.is (c.rewritten.ensures.logged world over)
+
+pub returns-in_ok-done-in-Read-clause-logged : goal.returns-in_ok-done-in-Read-clause-logged
+returns-in_ok-done-in-Read-clause-logged g c = λ world last outer over.
+    read_keep (declared_by c.args.plan.now) _ _ _ c.args.held.now.store world c.args.stmt.now c.in-Read.is c.in_ok-done-in-Read.done c.push_arm.result c.args.work.now c.read_one.new.work last _ _ _ c.place_of.ensures c.is_some.ensures (c.in_ok-done-in-Read.ensures.logged world over)

@@ -10,7 +10,7 @@ use Rattle.control_flow_theory.specs.semantics.Items.{Way, On, Halts, Into, To, 
 use Rattle.control_flow_theory.specs.language.Items.{Pending, ends_at}
 use Rattle.control_flow_theory.specs.semantics.Source.{rest_of, comes_to, goes_to, goes, falls, end_step, rest_step, step_by, source_step}
 use Rattle.control_flow_theory.specs.lowering.FlowFacts.{FlowFacts}
-use Rattle.control_flow_theory.specs.lowering.flow.Paths.{Flow, flow, free, nothing_left, IsFaulty, free_goes, free_end, free_rest, free_by, free_step}
+use Rattle.control_flow_theory.specs.lowering.flow.Paths.{Flow, flow, free, nothing_left, HasFaultyRun, free_goes, free_end, free_rest, free_by, free_step}
 use Rattle.control_flow_theory.proofs.lowering_lemmas.rests.Joints.{IsFine}
 
 module _ (told : FlowFacts) (program : Program) where
@@ -56,5 +56,5 @@ module _ (told : FlowFacts) (program : Program) where
   steps-free zero f fine = refl
   steps-free (suc n) f fine = ap (iterate (free_step told program) n) (step-free f.run.standing f (fine 1)) ∙ steps-free n (stepped f) (λ k. fine (suc k))
 
-  pub free-as-checked : (IsFaulty told program → ⊥) → (n : ℕ) (ways : List ℕ) → iterate stepped n (flow 0 (rest_of program 0) [] ways) ≡ iterate (free_step told program) n (flow 0 (rest_of program 0) [] ways)
+  pub free-as-checked : (HasFaultyRun told program → ⊥) → (n : ℕ) (ways : List ℕ) → iterate stepped n (flow 0 (rest_of program 0) [] ways) ≡ iterate (free_step told program) n (flow 0 (rest_of program 0) [] ways)
   free-as-checked not_faulty n ways = sym (steps-free n (flow 0 (rest_of program 0) [] ways) (λ k fault e. not_faulty (ways, k, fault, e)))

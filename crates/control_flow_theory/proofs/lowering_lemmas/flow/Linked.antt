@@ -17,7 +17,7 @@ use Rattle.control_flow_theory.specs.semantics.Walk.{main_machine}
 use Rattle.control_flow_theory.specs.lowering.FlowFacts.{FlowFacts, IsTold, IsSource}
 use Rattle.control_flow_theory.specs.lowering.Lowered.{place_in, lowered}
 use Rattle.control_flow_theory.specs.lowering.Reached.{kept, AreReached}
-use Rattle.control_flow_theory.specs.lowering.flow.Paths.{Flow, flow, free, nothing_left, IsFaulty}
+use Rattle.control_flow_theory.specs.lowering.flow.Paths.{Flow, flow, free, nothing_left, HasFaultyRun}
 use Rattle.control_flow_theory.specs.lowering.flow.Entered.{IsEntered, NamesWhatReturns, main}
 use Rattle.control_flow_theory.specs.lowering.Laws.{NoFlowFault, IsSoundAt, RangeHasNoFlowFault, KeepsApart}
 use Rattle.control_flow_theory.specs.lowering.Renamed.{numbered_anew, as_before}
@@ -33,14 +33,14 @@ use Rattle.control_flow_theory.proofs.lowering_lemmas.rests.Joints.{CallsNamed, 
 use Rattle.control_flow_theory.proofs.lowering_lemmas.steps.Linked.{source-walk-tied}
 use Rattle.control_flow_theory.proofs.lowering_lemmas.steps.Sound.{lowered-main-sound, lowered-range-sound}
 
-pub not-faulty-fine : {Memory Left : Type 0} (acting : Acting Memory) (left : Memory → Left) (told : FlowFacts) (program : Program) → IsTold told acting → IsSource told program → (IsFaulty told program → ⊥) → NoFlowFault acting left program
+pub not-faulty-fine : {Memory Left : Type 0} (acting : Acting Memory) (left : Memory → Left) (told : FlowFacts) (program : Program) → IsTold told acting → IsSource told program → (HasFaultyRun told program → ⊥) → NoFlowFault acting left program
 not-faulty-fine acting left told program is_told source not_faulty m n fault h =
     let f = frees told program source acting left is_told n 0 (rest_of program 0) [] m [] fault (rest-fits told program source 0) tt h in
     not_faulty (f.0 ++ [], n, fault, f.1 [])
 
 -- What a flow path comes to are parts of the program.
 
-module _ (told : FlowFacts) (program : Program) (source : IsSource told program) (not_faulty : IsFaulty told program → ⊥) where
+module _ (told : FlowFacts) (program : Program) (source : IsSource told program) (not_faulty : HasFaultyRun told program → ⊥) where
   abbrev FlowFits : Flow → Type 0
   FlowFits f = FitsIn told program source f.rest × PendingFit told program source f.pending
 
@@ -99,7 +99,7 @@ module _ (told : FlowFacts) (program : Program) (source : IsSource told program)
 
   -- a fault with the range alone pending is one of the program
   alone-faulty : (e x : ℕ) → IsPerformed told program e x → (n : ℕ) (ways : List ℕ) (fault : FlowFault) →
-      (iterate stepped n (flow (length program.paragraphs) (Do (Perform e x) ∷ []) [] ways)).run.standing ≡ Over (Faulted fault) → IsFaulty told program
+      (iterate stepped n (flow (length program.paragraphs) (Do (Perform e x) ∷ []) [] ways)).run.standing ≡ Over (Faulted fault) → HasFaultyRun told program
   alone-faulty e x p zero ways fault f = let k : Going ≡ Over (Faulted fault) = f in cc
   alone-faulty e x p (suc n) ways fault f =
       let number = p.0 in
@@ -131,7 +131,7 @@ tied-same a b c same t = record {
 }
 
 module _ {Memory Left : Type 0} (acting : Acting Memory) (left : Memory → Left) (told : FlowFacts) (program : Program) (keep : Range → Label → Bool) (is_told : IsTold told acting) (source : IsSource told program)
-    (some : 0 < length program.paragraphs) (returning : NamesWhatReturns told program) (not_faulty : IsFaulty told program → ⊥) (reached : AreReached (lowered told program) keep) where
+    (some : 0 < length program.paragraphs) (returning : NamesWhatReturns told program) (not_faulty : HasFaultyRun told program → ⊥) (reached : AreReached (lowered told program) keep) where
   abbrev Named : ℕ → ℕ → Type 0
   Named entry exit = IsEntered told program (Part entry exit)
 

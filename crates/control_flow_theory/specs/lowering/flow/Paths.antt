@@ -86,8 +86,8 @@ flow number rest pending ways =
     }
 
 -- some flow path ends in a fault of flow
-abbrev pub IsFaulty : FlowFacts → Program → Type 0
-IsFaulty told program = (ways : List ℕ) × (n : ℕ) × (fault : FlowFault)
+abbrev pub HasFaultyRun : FlowFacts → Program → Type 0
+HasFaultyRun told program = (ways : List ℕ) × (n : ℕ) × (fault : FlowFault)
     × ((meaning (source_machine (free told) nothing_left program) ways n).standing
     ≡ Over (Faulted fault))
 

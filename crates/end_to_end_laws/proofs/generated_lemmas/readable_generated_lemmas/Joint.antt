@@ -16,7 +16,8 @@ use Rattle.round_trip.proofs.spelling_lemmas.Told.{parts_are_told}
 use Rattle.end_to_end_laws.proofs.read_programs_lemmas.printed_words_lemmas.Programs.{no_printed_word_is_left_out}
 use Rattle.round_trip.specs.procedures.Told as told
 use Rattle.round_trip.proofs.procedures_lemmas.Printed.{named-header, procedures-told}
-use Rattle.end_to_end_laws.specs.read_programs.readable_programs.Readable.{units_before, tokens_before, own_tokens, own_names, own_procedures, IsFit, IsSpelled, IsShort}
+use Rattle.round_trip.specs.fitting_statements.own_fits.Own.{own_names}
+use Rattle.end_to_end_laws.specs.read_programs.readable_programs.Readable.{units_before, tokens_before, own_tokens, own_procedures, IsFit, IsSpelled, IsShort}
 use Rattle.end_to_end_laws.proofs.read_programs_lemmas.readable_programs_lemmas.Units.{split-units}
 use Rattle.program_gen.specs.Generated.{counter_entry, generated}
 use Rattle.end_to_end_laws.proofs.generated_lemmas.Counter.{keeps, titled}

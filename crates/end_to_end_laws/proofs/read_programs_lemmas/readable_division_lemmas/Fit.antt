@@ -22,7 +22,8 @@ use Rattle.round_trip.proofs.spelling_lemmas.Named as spelled_names
 use Rattle.round_trip.proofs.spelling_lemmas.Turns as spelled_turns
 use Rattle.round_trip.specs.procedures.readable_exprs.Laws.{SidesAreReadable}
 use Rattle.round_trip.specs.procedures.readable_exprs.Readable.{IsReadablePlace, IsReadableOperand}
-use Rattle.end_to_end_laws.specs.read_programs.readable_parts.Laws.{AreReadable, own_names}
+use Rattle.round_trip.specs.fitting_statements.own_fits.Own.{own_names}
+use Rattle.end_to_end_laws.specs.read_programs.readable_parts.Laws.{AreReadable}
 use Rattle.end_to_end_laws.specs.read_programs.readable_parts.Read.{IsFitFile}
 use Rattle.round_trip.specs.procedures.Own.{AreLabelled}
 use Rattle.round_trip.specs.procedures.readable_stmts.Fit.{FitsOperand, FitsPlace, FitsFile, PartsFit}

@@ -43,7 +43,8 @@ use Rattle.round_trip.proofs.procedures_lemmas.Labels as labels
 use Rattle.round_trip.proofs.procedures_lemmas.Titles.{titled}
 use Rattle.round_trip.proofs.procedures_lemmas.readable_stmts_lemmas.Headed as headed
 use Rattle.round_trip.proofs.procedures_lemmas.readable_stmts_lemmas.Paragraphs as read_paragraphs
-use Rattle.end_to_end_laws.specs.read_programs.readable_programs.Readable.{tokens_before, own_tokens, own_names, own_procedures, IsSpelled}
+use Rattle.round_trip.specs.fitting_statements.own_fits.Own.{own_names}
+use Rattle.end_to_end_laws.specs.read_programs.readable_programs.Readable.{tokens_before, own_tokens, own_procedures, IsSpelled}
 use Rattle.end_to_end_laws.specs.read_programs.readable_division.Laws.{ReadPartsFit, ProgramsThatAreReadAreReadable}
 use Rattle.end_to_end_laws.proofs.read_programs_lemmas.readable_division_lemmas.Fit.{parts-fit}
 use Rattle.end_to_end_laws.proofs.read_programs_lemmas.readable_division_lemmas.Told as told

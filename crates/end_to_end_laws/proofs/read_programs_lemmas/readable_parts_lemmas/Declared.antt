@@ -47,7 +47,8 @@ use Rattle.cobol_grammar.specs.Use as uses
 use Rattle.cobol_grammar.proofs.PartLaws.{parts}
 use Rattle.grammar_laws.specs.whole_counts.status_readings.Alike.{AlikeOutcomes}
 use Rattle.cobol_grammar.proofs.stmt_forms_lemmas.ParagraphLaws.{division}
-use Rattle.end_to_end_laws.specs.read_programs.readable_parts.Laws.{own_names, HasFitStatuses}
+use Rattle.round_trip.specs.fitting_statements.own_fits.Own.{own_names}
+use Rattle.end_to_end_laws.specs.read_programs.readable_parts.Laws.{HasFitStatuses}
 use Rattle.end_to_end_laws.specs.read_programs.readable_parts.Read.{IsFitStatus, ReferencesAreFit}
 use Rattle.end_to_end_laws.proofs.read_programs_lemmas.readable_parts_lemmas.Selects.{divisions, each-status}
 use Rattle.end_to_end_laws.proofs.read_programs_lemmas.readable_parts_lemmas.Status.{fit-status}

@@ -32,7 +32,7 @@ use Rattle.round_trip.specs.printable.printable_tokens.Printable.{IsPrintable}
 use Rattle.cobol_grammar.specs.Name as forms
 use Rattle.cobol_grammar.specs.Name.{file_fault, record_fault, as_record, is_record}
 use Rattle.parser_combinators.specs.words.Word.{is_data_word}
-use Rattle.end_to_end_laws.specs.read_programs.readable_parts.Laws.{own_names}
+use Rattle.round_trip.specs.fitting_statements.own_fits.Own.{own_names}
 use Rattle.end_to_end_laws.specs.read_programs.readable_parts.Read.{IsFitFile, IsFitRecord}
 
 data-name : (word : List ℕ) → is_printable_name word ≡ true → is_data_word word ≡ true

@@ -8,7 +8,8 @@ use Rattle.round_trip.specs.declarations.Laws.{ReadBack}
 use Rattle.round_trip.specs.declarations.Named.{AreStated}
 use Rattle.round_trip.proofs.declarations_lemmas.Declared.{declared_programs_keep_rules}
 use Rattle.round_trip.proofs.declarations_lemmas.ReadBack.{read-back}
-use Rattle.end_to_end_laws.specs.read_programs.readable_parts.Laws.{own_names, FitStatusesAreStated, NamesAreReadable, ProgramsThatAreReadAreStated, ProgramsThatAreReadHaveFitStatuses, ProgramsThatAreReadKeepRules}
+use Rattle.round_trip.specs.fitting_statements.own_fits.Own.{own_names}
+use Rattle.end_to_end_laws.specs.read_programs.readable_parts.Laws.{FitStatusesAreStated, NamesAreReadable, ProgramsThatAreReadAreStated, ProgramsThatAreReadHaveFitStatuses, ProgramsThatAreReadKeepRules}
 use Rattle.end_to_end_laws.proofs.read_programs_lemmas.readable_parts_lemmas.Declared.{read-divisions}
 use Rattle.end_to_end_laws.proofs.read_programs_lemmas.readable_parts_lemmas.Names.{file, entry}
 use Rattle.end_to_end_laws.proofs.read_programs_lemmas.readable_parts_lemmas.Status.{each-stated, status-spells}

@@ -44,7 +44,8 @@ use Rattle.round_trip.specs.spelling.stmt_spelling.Part.{Kept}
 use Rattle.round_trip.proofs.spelling_lemmas.stmt_spelling_lemmas.Paragraphs as paragraphs
 use Rattle.round_trip.specs.spelling.Kept.{kept_of}
 use Rattle.round_trip.proofs.spelling_lemmas.Told.{parts_are_told}
-use Rattle.end_to_end_laws.specs.read_programs.readable_programs.Readable.{own_names, tokens_before, IsFit}
+use Rattle.round_trip.specs.fitting_statements.own_fits.Own.{own_names}
+use Rattle.end_to_end_laws.specs.read_programs.readable_programs.Readable.{tokens_before, IsFit}
 use Rattle.end_to_end_laws.proofs.read_programs_lemmas.readable_programs_lemmas.Units.{kinds-count, procedure_kinds, all-kinds, before-is}
 
 next-kind : (tokens : List Token) → next tokens ≡ first_of (kinds_of tokens) None

@@ -5,7 +5,7 @@ use Rattle.grammar_laws.proofs.form_results_lemmas.Giving.{hence}
 use Rattle.round_trip.specs.printable.printable_tokens.Printable.{IsPrintable}
 use Rattle.round_trip.proofs.procedures_lemmas.readable_exprs_lemmas.Named.{finds_by}
 use Rattle.round_trip.proofs.procedures_lemmas.readable_exprs_lemmas.Expressions as expressions
-use Rattle.end_to_end_laws.specs.read_programs.readable_parts.Laws.{own_names}
+use Rattle.round_trip.specs.fitting_statements.own_fits.Own.{own_names}
 use Rattle.end_to_end_laws.specs.read_programs.readable_parts.Read.{ReferencesAreFit}
 use Rattle.end_to_end_laws.proofs.read_programs_lemmas.readable_parts_lemmas.Read.{fit-stated, read-keeps, read-statuses}
 use Rattle.end_to_end_laws.proofs.read_programs_lemmas.readable_parts_lemmas.Titled.{read-titled}

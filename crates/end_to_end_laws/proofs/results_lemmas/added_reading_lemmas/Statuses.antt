@@ -18,7 +18,8 @@ use Rattle.round_trip.specs.declarations.added_entries.Items.{WholeItem, whole_e
 use Rattle.round_trip.specs.declarations.added_entries.References.{AreJudgedAlike}
 use Rattle.round_trip.proofs.declarations_lemmas.added_entries_lemmas.References.{names_stay}
 use Rattle.round_trip.proofs.declarations_lemmas.added_entries_lemmas.Rules.{got-added}
-use Rattle.end_to_end_laws.specs.read_programs.readable_parts.Laws.{own_names, HasFitStatuses}
+use Rattle.round_trip.specs.fitting_statements.own_fits.Own.{own_names}
+use Rattle.end_to_end_laws.specs.read_programs.readable_parts.Laws.{HasFitStatuses}
 use Rattle.end_to_end_laws.specs.read_programs.readable_parts.Read.{EachStatus, IsFitStatus}
 
 -- where no fault is told of it, none is told where the item is such an item the more

@@ -13,7 +13,7 @@ use Rattle.out_names.specs.Words.{file_names, entry_names, paragraph_names, prog
 use Rattle.round_trip.specs.printable.Whole.{IfNamed, IsPrintableParagraph}
 use Rattle.round_trip.specs.printable.printable_tokens.Header.{IsHeaderName}
 use Rattle.round_trip.proofs.declarations_lemmas.fresh_items_lemmas.Program.{any-right, same-word, all-come}
-use Rattle.round_trip.specs.procedures.Names.{own_name, own_names, AreDifferent, IsTitle, IfTitle, AreTitled}
+use Rattle.round_trip.specs.procedures.Names.{own_name, header_names, AreDifferent, IsTitle, IfTitle, AreTitled}
 
 some-is : {A : Type 0} {x y : A} → Some x ≡ Some y → x ≡ y
 some-is e = cc
@@ -30,12 +30,12 @@ among None (Some section) rest label e = subst (λ n. list_any (bytes_eq label) 
 among (Some name) section rest label e =
     any-right (bytes_eq label) (own_name section) (name ∷ rest) (subst (λ n. list_any (bytes_eq label) (n ∷ rest) ≡ true) (sym (some-is e)) (here label rest))
 
-pub label-among : (list : List Paragraph) (entry : ℕ) (label : List ℕ) → paragraph_label list entry ≡ Some label → list_any (bytes_eq label) (own_names list) ≡ true
+pub label-among : (list : List Paragraph) (entry : ℕ) (label : List ℕ) → paragraph_label list entry ≡ Some label → list_any (bytes_eq label) (header_names list) ≡ true
 label-among [] entry label e = absurd cc
-label-among (p ∷ list) zero label e = among p.name p.section (own_names list) label e
+label-among (p ∷ list) zero label e = among p.name p.section (header_names list) label e
 label-among (p ∷ list) (suc entry) label e =
-    any-right (bytes_eq label) (own_name p.section) (own_name p.name ++ own_names list)
-    (any-right (bytes_eq label) (own_name p.name) (own_names list) (label-among list entry label e))
+    any-right (bytes_eq label) (own_name p.section) (own_name p.name ++ header_names list)
+    (any-right (bytes_eq label) (own_name p.name) (header_names list) (label-among list entry label e))
 
 -- ---- and a word of the program
 
@@ -75,15 +75,15 @@ different-behind None (Some section) rest d = d.1
 different-behind (Some name) None rest d = d.1
 different-behind (Some name) (Some section) rest d = d.1.1
 
-pub same-entry : (list : List Paragraph) → AreDifferent (own_names list) → (one other : ℕ) (label : List ℕ) →
+pub same-entry : (list : List Paragraph) → AreDifferent (header_names list) → (one other : ℕ) (label : List ℕ) →
     paragraph_label list one ≡ Some label → paragraph_label list other ≡ Some label → one ≡ other
 same-entry [] d one other label e f = absurd cc
 same-entry (p ∷ list) d zero zero label e f = refl
 same-entry (p ∷ list) d zero (suc other) label e f =
-    absurd (both_ways (list_any (bytes_eq label) (own_names list)) (none-behind p.name p.section (own_names list) label e d) (label-among list other label f))
+    absurd (both_ways (list_any (bytes_eq label) (header_names list)) (none-behind p.name p.section (header_names list) label e d) (label-among list other label f))
 same-entry (p ∷ list) d (suc one) zero label e f =
-    absurd (both_ways (list_any (bytes_eq label) (own_names list)) (none-behind p.name p.section (own_names list) label f d) (label-among list one label e))
-same-entry (p ∷ list) d (suc one) (suc other) label e f = ap suc (same-entry list (different-behind p.name p.section (own_names list) d) one other label e f)
+    absurd (both_ways (list_any (bytes_eq label) (header_names list)) (none-behind p.name p.section (header_names list) label f d) (label-among list one label e))
+same-entry (p ∷ list) d (suc one) (suc other) label e f = ap suc (same-entry list (different-behind p.name p.section (header_names list) d) one other label e f)
 
 -- ---- what a label may be
 

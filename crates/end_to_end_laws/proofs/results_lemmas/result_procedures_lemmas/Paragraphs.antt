@@ -11,7 +11,7 @@ use Rattle.struct_form.specs.Stops.{first_stops}
 use Rattle.struct_form.proofs.Structured.{structured_stops}
 use Rattle.procedure_split.proofs.made_procedures_lemmas.Rows.{beside}
 use Rattle.procedure_split.specs.Splitting.{IsSplit}
-use Rattle.round_trip.specs.procedures.Names.{own_name, own_names, AreDifferent, IsTitle, IfTitle, AreTitled}
+use Rattle.round_trip.specs.procedures.Names.{own_name, header_names, AreDifferent, IsTitle, IfTitle, AreTitled}
 use Rattle.round_trip.specs.procedures.Outline.{AreOutlined, HaveNamesAlone}
 use Rattle.round_trip.proofs.procedures_lemmas.Named.{named-outlined}
 use Rattle.end_to_end_laws.specs.results.result_procedures.Laws.{AreFew, SplitProgramsHaveProcedures}
@@ -42,13 +42,13 @@ bears-all (name ∷ names) (made ∷ paragraphs) many each =
 one-own : (name section : Option (List ℕ)) (word : List ℕ) (rest : List (List ℕ)) → name ≡ Some word → section ≡ None → own_name section ++ (own_name name ++ rest) ≡ word ∷ rest
 one-own name section word rest n s = ap (λ o. own_name o ++ (own_name name ++ rest)) s ∙ ap (λ o. own_name o ++ rest) n
 
-own-are : (names : List (List ℕ)) (paragraphs : List Paragraph) → EachBears names paragraphs → own_names paragraphs ≡ names
+own-are : (names : List (List ℕ)) (paragraphs : List Paragraph) → EachBears names paragraphs → header_names paragraphs ≡ names
 own-are [] [] h = refl
 own-are [] (made ∷ paragraphs) h = absurd h
 own-are (name ∷ names) [] h = absurd h
 own-are (name ∷ names) (made ∷ paragraphs) h =
     let first = h.0 in
-    one-own made.name made.section name (own_names paragraphs) first.named first.bare ∙ ap (λ rest. name ∷ rest) (own-are names paragraphs h.1)
+    one-own made.name made.section name (header_names paragraphs) first.named first.bare ∙ ap (λ rest. name ∷ rest) (own-are names paragraphs h.1)
 
 names-alone : (names : List (List ℕ)) (paragraphs : List Paragraph) → EachBears names paragraphs → HaveNamesAlone paragraphs
 names-alone [] [] h = tt

@@ -21,7 +21,8 @@ use Rattle.round_trip.proofs.procedures_lemmas.readable_stmts_lemmas.Headed as h
 use Rattle.round_trip.specs.procedures.Outline.{MayFollow, is_bare, AreHeaded, MayBegin, AreOutlined, HasProcedures}
 use Rattle.round_trip.specs.procedures.Told as told_procedures
 use Rattle.round_trip.proofs.procedures_lemmas.Labels as labels
-use Rattle.end_to_end_laws.specs.read_programs.readable_programs.Readable.{own_names, own_procedures, own_tokens, tokens_before, IsSpelled}
+use Rattle.round_trip.specs.fitting_statements.own_fits.Own.{own_names}
+use Rattle.end_to_end_laws.specs.read_programs.readable_programs.Readable.{own_procedures, own_tokens, tokens_before, IsSpelled}
 use Rattle.end_to_end_laws.proofs.read_programs_lemmas.readable_division_lemmas.Told as told
 use Rattle.end_to_end_laws.specs.results.result_procedures.Laws.{Spell, FitProgramsAreSpelled}
 

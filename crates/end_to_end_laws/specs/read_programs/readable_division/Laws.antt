@@ -10,7 +10,8 @@ use Rattle.symbol_tables.specs.declared.procedure_names.table.ProcedureTable.{Pr
 use Rattle.cobol_grammar.specs.Whole.{parts_of}
 use Rattle.round_trip.specs.printable.printable_tokens.Printable.{IsPrintable}
 use Rattle.round_trip.specs.spelling.Kept.{kept_of}
-use Rattle.end_to_end_laws.specs.read_programs.readable_programs.Readable.{own_names, IsReadable, IsShort}
+use Rattle.round_trip.specs.fitting_statements.own_fits.Own.{own_names}
+use Rattle.end_to_end_laws.specs.read_programs.readable_programs.Readable.{IsReadable, IsShort}
 use Rattle.round_trip.specs.procedures.Own.{AreLabelled}
 use Rattle.round_trip.specs.procedures.readable_stmts.Fit.{PartsFit}
 

@@ -4,7 +4,7 @@ use Rattle.cob_tree.specs.declared.entry.Entry.{Entry}
 use Rattle.cob_tree.specs.declared.program.Program.{Program}
 use Rattle.cobol_read.specs.Reading.{Reads}
 use Rattle.cobol_read.specs.Status.{status}
-use Rattle.symbol_tables.specs.data_names.Names.{Names, names_of}
+use Rattle.round_trip.specs.fitting_statements.own_fits.Own.{own_names}
 use Rattle.round_trip.specs.spelling.data_spelling.Printable.{SpellsStatus}
 use Rattle.round_trip.specs.spelling.data_spelling.Sections.{Fd}
 use Rattle.round_trip.specs.declarations.Named.{IsTitled, AreStated}
@@ -13,10 +13,6 @@ use Rattle.round_trip.specs.printable.printable_tokens.Printable.{IsPrintable}
 use Rattle.round_trip.specs.declarations.printed_declarations.FileRules.{KeepsRules}
 use Rattle.cobol_grammar.specs.Name.{file, record_name}
 use Rattle.end_to_end_laws.specs.read_programs.readable_parts.Read.{EachStatus, IsFitFile, IsFitRecord, IsFitStatus, ReferencesAreFit}
-
--- the names of its own files and entries
-abbrev pub own_names : Program → Names
-own_names program = names_of program.files program.entries
 
 -- the names of a program's files and records, and its status items, are spelled again where no
 -- fault is noted

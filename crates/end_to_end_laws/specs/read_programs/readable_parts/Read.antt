@@ -10,7 +10,7 @@ use Rattle.round_trip.specs.spelling.data_spelling.Printable.{IfAny}
 use Rattle.cobol_grammar.specs.declared.expr_forms.side.Side.{Side}
 use Rattle.cobol_grammar.specs.expr_forms.Levels.{data_reference}
 use Rattle.round_trip.specs.spelling.expr_spelling.Printable.{IsPrintablePlace, judged_operand}
-use Rattle.round_trip.specs.spelling.expr_spelling.Spelled.{IsOperandSide, PlaceHasRoom}
+use Rattle.round_trip.specs.spelling.expr_spelling.Spelled.{paren_levels, IsOperandSide, PlaceHasRoom}
 use Rattle.parser_combinators.specs.declared.note.Position.{Position}
 use Rattle.grammar_laws.specs.form_results.Giving.{Gives}
 use Rattle.round_trip.specs.spelling.Kept.{IsEntrySide}
@@ -29,7 +29,7 @@ module _ (names : Names) (program : Program) where
     -- its place can be printed so
     pub fit : IsPrintablePlace names program (place_of side.what)
     -- its window has room
-    pub room : PlaceHasRoom true 501 0 (place_of side.what)
+    pub room : PlaceHasRoom true paren_levels 0 (place_of side.what)
     -- the same is known of it
     pub kept : IsOperandSide names program (operands.Place (place_of side.what)) side
 
@@ -42,7 +42,7 @@ module _ (names : Names) (program : Program) where
     -- its place can be printed so
     pub fit : IsPrintablePlace names program place
     -- its window has room
-    pub room : PlaceHasRoom true 501 0 place
+    pub room : PlaceHasRoom true paren_levels 0 place
     -- it has two bytes of any kind
     pub suits : (position : Position) →
         kind_fault (judged_operand names program (operands.Place place)).kind

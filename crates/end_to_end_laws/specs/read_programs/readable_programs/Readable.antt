@@ -9,7 +9,7 @@ use Rattle.cobol_print.specs.units.Division.{program_id, environment_units, data
 use Rattle.cobol_print.specs.Printed.{printed_tokens}
 use Rattle.cobol_print.specs.Program.{printed}
 use Rattle.cobol_print.specs.Unit.{all_tokens}
-use Rattle.symbol_tables.specs.data_names.Names.{Names, names_of}
+use Rattle.round_trip.specs.fitting_statements.own_fits.Own.{own_names}
 use Rattle.cobol_grammar.specs.declared.expr_forms.side.Side.{Side}
 use Rattle.cob_store.specs.sizes.Storage.{storage_limit, storage_of}
 use Rattle.symbol_tables.specs.declared.procedure_names.table.ProcedureTable.{ProcedureTable}
@@ -41,10 +41,6 @@ tokens_before program = length (all_tokens (units_before program))
 -- the tokens that its printed bytes are cut into
 abbrev pub own_tokens : Program → List Token
 own_tokens program = printed_tokens 0 (program_units program)
-
--- the names of its files and entries
-abbrev pub own_names : Program → Names
-own_names program = names_of program.files program.entries
 
 -- the paragraphs and sections that its printed tokens tell
 abbrev pub own_procedures : Program → ProcedureTable

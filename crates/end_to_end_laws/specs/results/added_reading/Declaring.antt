@@ -6,7 +6,7 @@ use Rattle.cobol_read.specs.Status.{status}
 use Rattle.round_trip.specs.spelling.data_spelling.Sections.{Fd}
 use Rattle.round_trip.specs.declarations.printed_declarations.FileRules.{KeepsRules}
 use Rattle.round_trip.specs.declarations.Named.{IsTitled, AreStated}
-use Rattle.end_to_end_laws.specs.read_programs.readable_parts.Laws.{own_names}
+use Rattle.round_trip.specs.fitting_statements.own_fits.Own.{own_names}
 
 -- its names may be names, its entries are in such sections that they keep the rules, and its
 -- status items are spelled

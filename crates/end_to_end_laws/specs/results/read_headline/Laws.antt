@@ -3,7 +3,7 @@ use Rattle.std.specs.Prelude.{ℕ, List}
 use Rattle.cob_tree.specs.declared.program.Program.{Program}
 use Rattle.cobol_read.specs.Reading.{Reads}
 use Rattle.control_flow_theory.specs.language.Control.{control_of}
-use Rattle.control_flow_theory.specs.language.Structured.{IsStructured}
+use Rattle.control_flow_theory.specs.language.Structured.{IsStructuredControl}
 use Rattle.struct_form.specs.Structured as tree
 use Rattle.pending_returns.specs.declared.facts.Summary.{Summary}
 use Rattle.cobol_theory.specs.cobol_meaning.Same.{SameBehaviour}
@@ -22,7 +22,7 @@ abbrev pub ProgramsThatAreReadBehaveAlike : Type 0
 ProgramsThatAreReadBehaveAlike =
     (bytes : List ℕ) (program made : Program) (summary : Summary) → Reads bytes program →
     IsFaultFree program summary → IsSplit program summary made →
-    IsStructured (control_of made) × SameBehaviour program made
+    IsStructuredControl (control_of made) × SameBehaviour program made
 
 -- what a program that is read is split into is structured as the tests of the tree tell it, without
 -- EXIT

@@ -29,11 +29,11 @@ use Rattle.round_trip.specs.fitting_statements.Given.{FitParagraphs}
 use Rattle.round_trip.specs.fitting_statements.Scope.{are_in_scope}
 use Rattle.round_trip.specs.fitting_statements.Spelling.{FitsSpell}
 use Rattle.round_trip.specs.fitting_statements.Statement.{are_fit_paragraphs}
-use Rattle.round_trip.specs.fitting_statements.own_fits.Own.{own_fits}
+use Rattle.round_trip.specs.fitting_statements.own_fits.Own.{own_names, own_fits}
 use Rattle.round_trip.specs.procedures.Names.{AreDifferent, IsTitle}
 use Rattle.round_trip.specs.procedures.Outline.{HasProcedures}
 use Rattle.round_trip.specs.procedures.Told.{own_procedures}
-use Rattle.end_to_end_laws.specs.read_programs.readable_programs.Readable.{own_names, tokens_before, IsSpelled}
+use Rattle.end_to_end_laws.specs.read_programs.readable_programs.Readable.{tokens_before, IsSpelled}
 
 -- ---- names
 

@@ -8,8 +8,8 @@ use Rattle.flow_graph.proofs.MadeRows.{are_nodes, label_of, labels_up, made_move
 use Rattle.flow_graph.proofs.Reached.{entry_below}
 use Rattle.flow_graph.proofs.nodes.lower_within.Goals as goal
 
-pub overflow_mul-place : goal.overflow_mul-place
-overflow_mul-place c =
+pub overflow_mul-begin : goal.overflow_mul-begin
+overflow_mul-begin c =
     let telling = c.args.telling.now in
     let spots = c.args.spots.now in
     let some = c.requires.range in

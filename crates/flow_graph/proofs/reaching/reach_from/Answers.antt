@@ -10,15 +10,15 @@ use Rattle.flow_graph.proofs.reaching.reach_from.Goals as goal
 pub visit-requires-clause-room : goal.visit-requires-clause-room
 visit-requires-clause-room c =
     let some = c.requires.range in
-    let lt = entry_below c.args.telling.now c.args.spots.now c.args.range c.requires.whole some.0 some.1 c.args.entry c.requires.entry in
+    let lt = entry_below c.args.telling.now c.args.spots.now c.args.begin.range c.requires.whole some.0 some.1 c.args.begin.entry c.requires.entry in
     omega (arith, lt, c.requires.size, c.clear.ensures.size)
 
 pub loop-at-init : goal.loop-at-init
 loop-at-init c = record {
-  reach = reach_begin c.args.telling.now c.args.spots.now c.args.range c.clear.new.self.places.items c.visit.new.self.places.items c.visit.new.self.marks.items c.args.entry c.requires.entry c.clear.ensures.none
+  reach = reach_begin c.args.telling.now c.args.spots.now c.args.begin.range c.clear.new.self.places.items c.visit.new.self.places.items c.visit.new.self.marks.items c.args.begin.entry c.requires.entry c.clear.ensures.none
       c.in_ok-visit.ensures.marked (c.in_ok-visit.ensures.size ∙ c.clear.ensures.size ∙ c.requires.size) c.in_ok-visit.ensures.adds;
-  made = made_none c.args.telling.now c.args.spots.now c.args.range c.visit.new.self.places.items c.args.nodes.now.items c.requires.none;
-  counts = counts-none c.args.telling.now c.args.spots.now c.args.range c.visit.new.self.places.items;
+  made = made_none c.args.telling.now c.args.spots.now c.args.begin.range c.visit.new.self.places.items c.args.nodes.now.items c.requires.none;
+  counts = counts-none c.args.telling.now c.args.spots.now c.args.begin.range c.visit.new.self.places.items;
   few = omega arith;
 }
 
@@ -29,11 +29,11 @@ returns-then-at-len c =
     let places = c.loop-at.reach.places.items in
     let over : length places ≤ c.loop-at.at = omega (arith, c.if-at-len.true) in
     record {
-      reach = λ all. reach_all telling spots c.args.range c.args.entry places c.loop-at.reach.marks.items c.loop-at.at c.requires.entry c.loop-at.invariant.reach over;
-      made = λ all. made_all telling spots c.args.range places c.loop-at.at c.loop-at.nodes.items over c.loop-at.invariant.made;
+      reach = λ all. reach_all telling spots c.args.begin.range c.args.begin.entry places c.loop-at.reach.marks.items c.loop-at.at c.requires.entry c.loop-at.invariant.reach over;
+      made = λ all. made_all telling spots c.args.begin.range places c.loop-at.at c.loop-at.nodes.items over c.loop-at.invariant.made;
       within = λ all. (
         c.loop-at.count,
-        counts-all telling spots c.args.range places c.loop-at.at c.loop-at.count over c.loop-at.invariant.counts,
+        counts-all telling spots c.args.begin.range places c.loop-at.at c.loop-at.count over c.loop-at.invariant.counts,
         c.loop-at.invariant.few,
       );
       larger = λ no. absurd (let k : ⊥ = cc in k);
@@ -49,11 +49,11 @@ returns c =
     let up : length places ≤ length c.loop-at.reach.marks.items = few places c.loop-at.reach.marks.items c.loop-at.invariant.reach.marked in
     let over : length places ≤ c.loop-at.at = omega (arith, up, c.loop-at.invariant.reach.size, c.in_ok-visit.ensures.size, c.clear.ensures.size, c.requires.size, c.len-at-end.ensures, c.loop-at-test.false) in
     record {
-      reach = λ all. reach_all telling spots c.args.range c.args.entry places c.loop-at.reach.marks.items c.loop-at.at c.requires.entry c.loop-at.invariant.reach over;
-      made = λ all. made_all telling spots c.args.range places c.loop-at.at c.loop-at.nodes.items over c.loop-at.invariant.made;
+      reach = λ all. reach_all telling spots c.args.begin.range c.args.begin.entry places c.loop-at.reach.marks.items c.loop-at.at c.requires.entry c.loop-at.invariant.reach over;
+      made = λ all. made_all telling spots c.args.begin.range places c.loop-at.at c.loop-at.nodes.items over c.loop-at.invariant.made;
       within = λ all. (
         c.loop-at.count,
-        counts-all telling spots c.args.range places c.loop-at.at c.loop-at.count over c.loop-at.invariant.counts,
+        counts-all telling spots c.args.begin.range places c.loop-at.at c.loop-at.count over c.loop-at.invariant.counts,
         c.loop-at.invariant.few,
       );
       larger = λ no. absurd (let k : ⊥ = cc in k);
@@ -70,7 +70,7 @@ visit_node-requires-clause-there c =
 pub visit_node-requires-clause-below : goal.visit_node-requires-clause-below
 visit_node-requires-clause-below c =
     let is = slice_get_read c.loop-at.reach.places.items (length c.loop-at.reach.places.items) c.loop-at.at c.index-label.result.now refl (omega (arith, c.if-at-len.false)) c.index-label.ensures in
-    jumps_below c.args.telling.now c.args.spots.now c.args.range c.args.entry c.loop-at.reach.places.items c.loop-at.reach.marks.items c.loop-at.at c.index-label.result.now c.loop-at.invariant.reach c.requires.whole c.requires.range (c.loop-at.at, is)
+    jumps_below c.args.telling.now c.args.spots.now c.args.begin.range c.args.begin.entry c.loop-at.reach.places.items c.loop-at.reach.marks.items c.loop-at.at c.index-label.result.now c.loop-at.invariant.reach c.requires.whole c.requires.range (c.loop-at.at, is)
 
 pub visit_node-requires-clause-small : goal.visit_node-requires-clause-small
 visit_node-requires-clause-small c = omega (arith, c.loop-at.invariant.reach.size, c.requires.whole.count, c.requires.whole.small)
@@ -79,7 +79,7 @@ pub returns-then-count-most : goal.returns-then-count-most
 returns-then-count-most c =
     let telling = c.args.telling.now in
     let spots = c.args.spots.now in
-    let range = c.args.range in
+    let range = c.args.begin.range in
     let places = c.loop-at.reach.places.items in
     let later = c.visit_node.new.reach.places.items in
     let marks = c.visit_node.new.reach.marks.items in
@@ -89,7 +89,7 @@ returns-then-count-most c =
     let is = slice_get_read places (length places) at here refl lt c.index-label.ensures in
     let some = c.requires.range in
     let adds = c.in_ok-size.ensures.adds in
-    let so = reach_more telling spots range c.args.entry places later
+    let so = reach_more telling spots range c.args.begin.entry places later
     c.loop-at.reach.marks.items marks at here
     c.loop-at.invariant.reach lt is adds c.in_ok-size.ensures.marked c.in_ok-size.ensures.size some in
     let counts = counts-more telling spots range places later (adds some.0 some.1.table).kept at here
@@ -111,7 +111,7 @@ pub loop-at-preserved : goal.loop-at-preserved
 loop-at-preserved c =
     let telling = c.args.telling.now in
     let spots = c.args.spots.now in
-    let range = c.args.range in
+    let range = c.args.begin.range in
     let places = c.loop-at.reach.places.items in
     let later = c.visit_node.new.reach.places.items in
     let at = c.loop-at.at in
@@ -120,7 +120,7 @@ loop-at-preserved c =
     let some = c.requires.range in
     let adds = c.in_ok-size.ensures.adds in
     record {
-      reach = reach_more telling spots range c.args.entry places later c.loop-at.reach.marks.items c.visit_node.new.reach.marks.items at here
+      reach = reach_more telling spots range c.args.begin.entry places later c.loop-at.reach.marks.items c.visit_node.new.reach.marks.items at here
           c.loop-at.invariant.reach (omega (arith, c.if-at-len.false)) is adds c.in_ok-size.ensures.marked c.in_ok-size.ensures.size some;
       made = made_more telling spots range places later (adds some.0 some.1.table).kept at here (omega (arith, c.if-at-len.false)) is
           c.loop-at.nodes.items c.visit_node.new.nodes.items c.in_ok-size.ensures.node c.loop-at.invariant.made;

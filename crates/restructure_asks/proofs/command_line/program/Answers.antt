@@ -3,6 +3,7 @@ use Rattle.std.specs.Prelude.{IfOk}
 use Rattle.cob_base.specs.Source.{source_call}
 use Rattle.cob_base.specs.Sink.{sink_call}
 use Rattle.file_model.specs.contracts.operations.watched.BoxDynDeviceWatched.TheImpl.{seen-value}
+use Rattle.restructure_core.specs.run.Bench.{bench_call}
 use Rattle.restructure_asks.specs.Ask.{ask_of}
 use Rattle.restructure_asks.specs.Tool.{Ends, EndsWithFiles}
 use Rattle.restructure_asks.specs.Program.{is_page}
@@ -24,7 +25,6 @@ returns-in-Ok-clause-over g c =
     let source = source_call g.S.Source.left g.S.Source.faults c.args.source.now c.serve.new.source in
     let out = sink_call g.K.Sink.held g.K.Sink.faults c.args.out.now c.serve.new.out in
     let notes = sink_call g.N.Sink.held g.N.Sink.faults c.args.notes.now c.serve.new.notes in
-    let old = map (seen-value g.dyn-1).it c.args.bench.now.devices.items in
-    let new = map (seen-value g.dyn-1).it c.serve.new.bench.devices.items in
+    let bench = bench_call (seen-value g.dyn-1).it c.args.bench.now c.serve.new.bench in
     if-ok c.args.words c.in-Ok.words _ c.in-Ok.is
-    (subst (λ ws. is_page (map string_bytes ws) ≡ false → EndsWithFiles (ask_of (map string_bytes ws)) source out notes c.args.bench.now.left c.serve.new.bench.left old new c.serve.result) c.as_slice.ensures.value c.serve.ensures.over)
+    (subst (λ ws. is_page (map string_bytes ws) ≡ false → EndsWithFiles (ask_of (map string_bytes ws)) source out notes bench c.serve.result) c.as_slice.ensures.value c.serve.ensures.over)

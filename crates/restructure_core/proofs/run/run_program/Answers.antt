@@ -10,8 +10,10 @@ returns-clause-came g c =
 pub returns-clause-over : goal.returns-clause-over
 returns-clause-over g c = (
   refl,
-  c.run-ran.ensures.ends,
-  λ plain.
-      let kept = c.run-ran.ensures.kept (passes_plain c.args.program plain) in
-      (ap (λ bench. bench.left) kept, ap (λ bench. map (seen-value g.dyn-1).it bench.devices.items) kept),
+  (
+    c.run-ran.ensures.ends,
+    λ plain.
+        let kept = c.run-ran.ensures.kept (passes_plain c.args.program plain) in
+        (ap (λ bench. bench.left) kept, ap (λ bench. map (seen-value g.dyn-1).it bench.devices.items) kept),
+  ),
 )

@@ -1,6 +1,7 @@
 -- Places, operands and expressions as they are read, where what is in the tree for them can be
 -- printed so that it is read back, and the same is known of it.
 use Rattle.std.specs.Prelude.{ℕ, ◌≡◌, ◌≤◌, true, None}
+use Rattle.cob_base.specs.Limit.{max_terms}
 use Rattle.cob_tree.specs.declared.cond.Cond.{Cond}
 use Rattle.cob_tree.specs.declared.place.Operand.TheVariants as operands
 use Rattle.cob_tree.specs.declared.program.Program.{Program}
@@ -12,7 +13,7 @@ use Rattle.cobol_grammar.specs.expr_forms.Fault.{number_fault, whole_fault}
 use Rattle.cobol_grammar.specs.expr_forms.Side.{expr_of}
 use Rattle.cobol_grammar.specs.Use.{operand_of, place_of}
 use Rattle.round_trip.specs.spelling.expr_spelling.Printable.{IsPrintableExpr, IsPrintableOperand, IsPrintablePlace}
-use Rattle.round_trip.specs.spelling.expr_spelling.Spelled.{IsOperandSide, IsExprSide, PlaceHasRoom, OperandHasRoom}
+use Rattle.round_trip.specs.spelling.expr_spelling.Spelled.{paren_levels, IsOperandSide, IsExprSide, PlaceHasRoom, OperandHasRoom}
 use Rattle.round_trip.specs.spelling.cond_spelling.Printable.{IsPrintableCond}
 
 module _ (names : Names) (program : Program) where
@@ -21,7 +22,8 @@ module _ (names : Names) (program : Program) where
     -- it can be printed so
     pub fit : IsPrintableOperand names program (operand_of side.what)
     -- its window has room
-    pub room : (before : ℕ) → before ≤ most → OperandHasRoom true 501 before (operand_of side.what)
+    pub room : (before : ℕ) → before ≤ most →
+        OperandHasRoom true paren_levels before (operand_of side.what)
     -- the same is known of it
     pub kept : IsOperandSide names program (operand_of side.what) side
 
@@ -30,7 +32,7 @@ module _ (names : Names) (program : Program) where
     -- it can be printed so
     pub fit : IsPrintablePlace names program (place_of side.what)
     -- its window has room
-    pub room : PlaceHasRoom true 501 0 (place_of side.what)
+    pub room : PlaceHasRoom true paren_levels 0 (place_of side.what)
     -- the same is known of it
     pub kept : IsOperandSide names program (operands.Place (place_of side.what)) side
     -- it is a place as an operand too
@@ -47,7 +49,7 @@ module _ (names : Names) (program : Program) where
     -- it can be printed so
     pub fit : IsPrintableExpr names program (expr_of side.what)
     -- it has no more terms than their limit
-    pub few : expr_terms (expr_of side.what) ≤ 500
+    pub few : expr_terms (expr_of side.what) ≤ max_terms
     -- the same is known of it
     pub kept : IsExprSide names program (expr_of side.what) side
 
@@ -56,4 +58,4 @@ module _ (names : Names) (program : Program) where
     -- it can be printed so
     pub fit : IsPrintableCond names program cond
     -- it has no more terms than their limit
-    pub few : cond_terms cond ≤ 500
+    pub few : cond_terms cond ≤ max_terms

@@ -1,5 +1,6 @@
 -- What spells conditions.
 use Rattle.std.specs.Prelude.{ℕ, ◌≡◌, ◌≤◌, true, false, ◌⊎◌, [], ◌∷◌, ◌++◌, codes}
+use Rattle.cob_base.specs.Limit.{max_terms}
 use Rattle.cob_tree.specs.declared.cond.Cond.{Cond}
 use Rattle.cob_tree.specs.declared.program.Program.{Program}
 use Rattle.cobol_lex.specs.declared.token.TokenKind.TheVariants as kinds
@@ -16,7 +17,7 @@ use Rattle.round_trip.specs.spelling.cond_spelling.Printable.{IsPrintableCond}
 -- where nothing after it continues it
 abbrev pub ConditionsAreSpelled : Type 0
 ConditionsAreSpelled = (names : Names) (program : Program) (cond : Cond) (taken : ℕ) →
-    IsPrintableCond names program cond → cond_terms cond ≤ 500 →
+    IsPrintableCond names program cond → cond_terms cond ≤ max_terms →
     Spelled (whole_cond names) taken (cond_tokens program cond false) (Ends continues_cond)
     (λ found. found ≡ (cond, false))
 
@@ -24,7 +25,7 @@ ConditionsAreSpelled = (names : Names) (program : Program) (cond : Cond) (taken 
 -- a test could be there, and isn't where it ends otherwise.
 abbrev pub ConditionsBeforeNot : Type 0
 ConditionsBeforeNot = (names : Names) (program : Program) (cond : Cond) →
-    IsPrintableCond names program cond → cond_terms cond ≤ 500 →
+    IsPrintableCond names program cond → cond_terms cond ≤ max_terms →
     ((taken : ℕ) →
     Spelled (whole_cond names) taken (cond_tokens program cond false) IsNot
     (λ found. found ≡ (cond, false)))

@@ -1,6 +1,7 @@
 -- What may follow places and expressions, how many terms they may have, and what is read of
 -- them.
 use Rattle.std.specs.Prelude.{ℕ, ◌≡◌, ◌+◌, ◌<◌, ◌≤◌, Bool, false, ◌||◌, List, Option, Some, None}
+use Rattle.cob_base.specs.Limit.{max_parens, max_terms}
 use Rattle.cob_base.specs.Bytes.{left_parenthesis}
 use Rattle.cob_tree.specs.declared.place.Expr.{Expr}
 use Rattle.cob_tree.specs.declared.place.Operand.{Operand}
@@ -72,6 +73,10 @@ abbrev pub size_terms : Option Expr → ℕ
 size_terms None = 0
 size_terms (Some size) = expr_terms size
 
+-- the levels of parentheses that may be open, and the one outside of them
+abbrev pub paren_levels : ℕ
+paren_levels = max_parens + 1
+
 -- After so many terms, and within fewer levels of parentheses than these, a window has room.
 -- Outside of any expression its second one is counted anew.
 pub record HasRoom (alone : Bool) (levels count : ℕ) (from : Expr) (size : Option Expr) : Type 0
@@ -81,9 +86,9 @@ pub record HasRoom (alone : Bool) (levels count : ℕ) (from : Expr) (size : Opt
     -- so is the length
     pub second : size_terms size < levels
     -- the terms up to the start are within their limit
-    pub some : count + expr_terms from ≤ 500
+    pub some : count + expr_terms from ≤ max_terms
     -- so are those up to the length
-    pub all : second_count alone (count + expr_terms from) + size_terms size ≤ 500
+    pub all : second_count alone (count + expr_terms from) + size_terms size ≤ max_terms
 
 -- a window of a start and a length
 abbrev pub made_window : Expr → Option Expr → Window

@@ -12,3 +12,13 @@ pub returns-in_err-make_room-clause-breaks : goal.returns-in_err-make_room-claus
 returns-in_err-make_room-clause-breaks g c = λ world over.
     let p = err_from_is_err_and c.from_residual.result c.from_residual.ensures.1 in
     rw (p.1, p.2) (over_left c.args.files.now c.args.bench.now.left _ c.args.table.now.rows world over)
+
+pub returns-in_err-ready-clause-bench : goal.returns-in_err-ready-clause-bench
+returns-in_err-ready-clause-bench g c =
+    let p = err_from_is_err_and c.from_residual-in_err-ready.result c.from_residual-in_err-ready.ensures.1 in
+    rw (p.1, p.2) (wanted_memory c.args.files.now c.args.bench.now.left _ c.args.table.now.rows)
+
+pub returns-in_err-ready-clause-breaks : goal.returns-in_err-ready-clause-breaks
+returns-in_err-ready-clause-breaks g c = λ world over.
+    let p = err_from_is_err_and c.from_residual-in_err-ready.result c.from_residual-in_err-ready.ensures.1 in
+    rw (p.1, p.2) (over_left c.args.files.now c.args.bench.now.left _ c.args.table.now.rows world over)

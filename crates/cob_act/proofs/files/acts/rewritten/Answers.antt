@@ -1,11 +1,13 @@
-use Rattle.std.proofs.Common.{Err, Ok, inr, map, take, ℕ}
+use Rattle.std.proofs.Common.{◌∙◌, ◌∷◌, ◌++◌, [], Err, IsTrue, Ok, ap, inr, map, subst, sym, take, ℕ}
 use Rattle.std.specs.Prelude.{option_copied}
 use Rattle.file_model.specs.Attempts.{rewritten_at}
 use Rattle.file_model.specs.World.{Rewrite}
 use Rattle.meanings.specs.statements.Does.{declared_with}
-use Rattle.meanings.specs.statements.Filing.{file_of, from_by, rewritten}
+use Rattle.meanings.specs.statements.Filing.{address_at, file_of, from_by, rewritten}
 use Rattle.file_model.specs.contracts.operations.watched.BoxDynDeviceWatched.TheImpl.{seen-value}
 use Rattle.cob_act.proofs.files_lemmas.EffectLemmas.{put_did, tried_at}
+use Rattle.cob_act.specs.declared.files.work.FileVerb.TheVariants as verbs
+use Rattle.cob_act.proofs.files_lemmas.WorkLemmas.{done_of, put_kept, put_moved, rewritten_moves}
 use Rattle.std.proofs.lemmas.Result.{err_from_is_err_and}
 use Rattle.cob_act.specs.declared.files.fault.FileFault.TheVariants as faults
 use Rattle.cob_act.proofs.files_lemmas.BenchLemmas.{wanted_memory}
@@ -17,9 +19,9 @@ pub returns-in_ok-status-in-Ok-clause-does : goal.returns-in_ok-status-in-Ok-cla
 returns-in_ok-status-in-Ok-clause-does g c = λ world over.
     let declared = declared_with c.args.program.now c.args.areas.now in
     let puts = rw c.in-Ok.is at c.in_ok-abend.ensures.does in
-    put_did declared c.args.program.now.files Rewrite (rewritten_at world) c.args.writing.entry (from_by declared c.args.writing.entry c.args.store.now (option_copied c.args.writing.from)) c.put_out.new.store c.settled.new.store c.put_out.new.scratch.items c.in-Ok.item c.in_ok-status-in-Ok.status c.settled.result world (take c.rewrite.new.bench.left (map (seen-value g.dyn-1).it c.rewrite.new.bench.devices.items)) c.rewrite.new.table.rows
+    put_did declared c.args.program.now.files Rewrite (rewritten_at world) c.args.writing.entry (from_by declared c.args.writing.entry c.args.store.now (option_copied c.args.writing.from)) c.put_out.new.store c.settled.new.store c.put_out.new.work.bytes.items c.in-Ok.item c.in_ok-status-in-Ok.status c.settled.result world (take c.rewrite.new.bench.left (map (seen-value g.dyn-1).it c.rewrite.new.bench.devices.items)) c.rewrite.new.table.rows
     puts
-    (tried_at (rewritten_at world) c.args.program.now.files c.as_slice-files.result.now (Ok c.in_ok-status-in-Ok.status) (file_of declared c.args.writing.entry) c.file_of-file.result c.put_out.new.scratch.items c.as_slice.result.now
+    (tried_at (rewritten_at world) c.args.program.now.files c.as_slice-files.result.now (Ok c.in_ok-status-in-Ok.status) (file_of declared c.args.writing.entry) c.file_of-file.result c.put_out.new.work.bytes.items c.as_slice.result.now
     (take c.args.bench.now.left (map (seen-value g.dyn-1).it c.args.bench.now.devices.items)) (take c.rewrite.new.bench.left (map (seen-value g.dyn-1).it c.rewrite.new.bench.devices.items)) c.args.table.now.rows c.rewrite.new.table.rows world c.as_slice-files.ensures c.file_of-file.ensures c.as_slice.ensures.value (c.in_ok-status-in-Ok.ensures.does world) over)
     c.settled.ensures.end c.settled.ensures.store
 
@@ -49,3 +51,19 @@ returns-in_err-status-in-Ok-clause-kept g c =
     let puts = rw c.in-Ok.is at c.in_ok-abend.ensures.does in
     let p = err_from_is_err_and c.from_residual-in_err-status-in-Ok.result c.from_residual-in_err-status-in-Ok.ensures.1 in
     rw p.1 (inr puts.0)
+
+pub returns-in_ok-status-in-Ok-clause-logged : goal.returns-in_ok-status-in-Ok-clause-logged
+returns-in_ok-status-in-Ok-clause-logged g c = λ world over.
+    let declared = declared_with c.args.program.now c.args.areas.now in
+    let puts = rw c.in-Ok.is at c.in_ok-abend.ensures.does in
+    let tries =
+    (tried_at (rewritten_at world) c.args.program.now.files c.as_slice-files.result.now (Ok c.in_ok-status-in-Ok.status) (file_of declared c.args.writing.entry) c.file_of-file.result c.put_out.new.work.bytes.items c.as_slice.result.now
+    (take c.args.bench.now.left (map (seen-value g.dyn-1).it c.args.bench.now.devices.items)) (take c.rewrite.new.bench.left (map (seen-value g.dyn-1).it c.rewrite.new.bench.devices.items)) c.args.table.now.rows c.rewrite.new.table.rows world c.as_slice-files.ensures c.file_of-file.ensures c.as_slice.ensures.value (c.in_ok-status-in-Ok.ensures.does world) over) in
+    put_kept declared verbs.Rewrite (rewritten_at world) c.args.writing.entry (from_by declared c.args.writing.entry c.args.store.now (option_copied c.args.writing.from)) c.args.program.now.files c.put_out.new.store c.put_out.new.work.bytes.items c.in-Ok.item c.in_ok-status-in-Ok.status (take c.rewrite.new.bench.left (map (seen-value g.dyn-1).it c.rewrite.new.bench.devices.items)) c.rewrite.new.table.rows c.settled.result c.args.work.now c.note.new.self
+    puts tries
+    (put_moved c.args.program.now.files c.in_ok-status-in-Ok.status (rewritten_at world (file_of declared c.args.writing.entry) (address_at declared (file_of declared c.args.writing.entry)) c.put_out.new.work.bytes.items) c.put_out.new.work.bytes.items c.note.new.self.bytes.items _ c.rewrite.new.table.rows tries
+    (rewritten_moves world (file_of declared c.args.writing.entry) (address_at declared (file_of declared c.args.writing.entry)) c.put_out.new.work.bytes.items) (ap (λ b. b.items) c.note.ensures.bytes))
+    (λ keeps none.
+    c.note.ensures.done (subst IsTrue (sym c.in_ok-abend.ensures.keeps) keeps)
+    ∙ ap (λ l. l ++ done_of verbs.Rewrite c.file_of-file.result c.in_ok-status-in-Ok.status ∷ []) (c.in_ok-abend.ensures.done ∙ none)
+    ∙ ap (λ (f : ℕ). done_of verbs.Rewrite f c.in_ok-status-in-Ok.status ∷ []) c.file_of-file.ensures)

@@ -1,11 +1,12 @@
 use Rattle.std.proofs.lemmas.Result.{err_from_is_err_and}
 use Rattle.std.proofs.Common.{◌∙◌, ap, refl}
+use Rattle.cob_act.specs.declared.files.work.FileWork.{FileWork}
 use Rattle.cobol_run.specs.Frames.{heads, last_of, rest_of}
 use Rattle.cobol_run.specs.Machine.{state_in}
 use Rattle.cobol_run.specs.Plan.{declared_by}
 use Rattle.cobol_run.specs.Points.{operations_in}
 use Rattle.cobol_run.proofs.FilingLemmas.{next_none, steps_none}
-use Rattle.cobol_run.proofs.MachineLemmas.{files_breaks, files_step, own_step, plain_step}
+use Rattle.cobol_run.proofs.MachineLemmas.{files_breaks, files_shows, files_step, own_shows, own_step, plain_step}
 use Rattle.cobol_run.proofs.OverRunLemmas.{live_breaks, not_begun}
 use Rattle.cobol_run.proofs.FallLemmas.{none_fell}
 use Rattle.cobol_run.proofs.machine.Machine.step.Goals as goal
@@ -68,3 +69,17 @@ returns-in_err-head-clause-breaks g c = λ world trace own stands.
     let p = err_from_is_err_and c.from_residual.result c.from_residual.ensures.1 in
     rw p.1
     (not_begun c.args.self.now c.args.self.now c.args.bench.now.left _ world (operations_in (declared_by c.args.self.now.plan) (state_in c.args.self.now world trace)) refl refl stands)
+
+pub returns-in-None-clause-events : goal.returns-in-None-clause-events
+returns-in-None-clause-events g c =
+    let last = last_of c.args.self.now.plan.program.now c.args.self.now.paragraph in
+    own_shows c.args.self.now c.next.new.frames c.clear.new.shown c.head_step.new.self c.in_ok-head.head
+    (c.in_ok-head.ensures.rest last) (c.in_ok-head.ensures.pending c.args.self.now.plan.program.now) _
+    c.head_step.result (c.filing_of.ensures.none c.in-None.is) c.head_step.ensures.step (ap (λ (w : FileWork). w.done.items) c.head_step.ensures.work ∙ c.clear-2.ensures.none)
+
+pub returns-in-Some-clause-events : goal.returns-in-Some-clause-events
+returns-in-Some-clause-events g c =
+    let last = last_of c.args.self.now.plan.program.now c.args.self.now.paragraph in
+    files_shows c.args.self.now c.next.new.frames c.clear.new.shown c.file_step.new.self c.in_ok-head.head
+    (c.in_ok-head.ensures.rest last) (c.in_ok-head.ensures.pending c.args.self.now.plan.program.now)
+    c.in-Some.stmt.now _ c.clear-2.new.self c.file_step.result (λ rest. ap (λ head. heads last head rest) c.in-Some.ensures.here.0) c.in-Some.ensures.here.1 c.in-Some.ensures.shows c.clear-2.ensures.keeps c.clear-2.ensures.none c.file_step.ensures.events

@@ -14,11 +14,11 @@ use Rattle.flow_graph.proofs.range_sizes.segment.part_behind.Goals as goal
 
 pub loop-turn-init : goal.loop-turn-init
 loop-turn-init c = record {
-  there = slice_get_within c.args.spots.now c.args.place c.requires.goes.spot c.requires.goes.there;
+  there = slice_get_within c.args.spots.now c.args.from.place c.requires.goes.spot c.requires.goes.there;
   turns = omega arith;
   leads =
-      subst (λ (l : List Segment). LeadsTo c.args.telling.now c.args.spots.now c.args.passing
-      c.args.place l c.args.place) (sym c.requires.none) refl;
+      subst (λ (l : List Segment). LeadsTo c.args.telling.now c.args.spots.now c.args.from.passing
+      c.args.from.place l c.args.from.place) (sym c.requires.none) refl;
   goes = c.requires.goes;
   below = c.requires.below;
   known = c.requires.known;
@@ -33,9 +33,9 @@ returns-in-Some-clause-comes c =
     let there : here * 3 ≡ point here = omega arith in (
       here,
       c.loop-turn.invariant.leads,
-      subst (λ n. IsPartAt c.args.telling.now spots known.jumps.items n c.args.passing c.in-Some.part)
+      subst (λ n. IsPartAt c.args.telling.now spots known.jumps.items n c.args.from.passing c.in-Some.part)
           there
-          (kept-part c.args.telling.now spots known (here * 3) c.args.passing c.in-Some.part
+          (kept-part c.args.telling.now spots known (here * 3) c.args.from.passing c.in-Some.part
           c.loop-turn.invariant.known c.in-Some.ensures),
     )
 
@@ -49,20 +49,20 @@ loop-turn-preserved c =
     let stretch : Segment = record { place = here; size = c.tree_size-size.result } in
     let behind : IsBehind spots here next =
     subst (GoesBehind spots here) c.in-Some-next.is c.in_ok-run.ensures.next in
-    let runs : IsSegment telling spots c.args.passing stretch next =
-    stretch-of telling spots c.args.range here next c.args.passing c.in_ok-run.run' stretch
+    let runs : IsSegment telling spots c.args.from.passing stretch next =
+    stretch-of telling spots c.args.from.range here next c.args.from.passing c.in_ok-run.run' stretch
     (inv.known.shared inv.shared) inv.there behind inv.goes c.in_ok-run.ensures.run
     c.in-Some-next.is refl c.tree_size-size.ensures in
     record {
       there = behind.within;
       turns = omega (arith, inv.turns, behind.later);
       leads =
-          subst (λ (l : List Segment). LeadsTo telling spots c.args.passing c.args.place l next)
+          subst (λ (l : List Segment). LeadsTo telling spots c.args.from.passing c.args.from.place l next)
           (sym c.in_ok-push-in-Some-next.ensures.items)
-          (one-more telling spots c.args.passing c.args.place here next c.loop-turn.stretches.items
+          (one-more telling spots c.args.from.passing c.args.from.place here next c.loop-turn.stretches.items
           stretch inv.leads refl runs);
-      goes = runs.goes c.args.range inv.goes;
-      below = below-next telling spots c.args.range c.args.passing stretch next _ runs inv.goes
+      goes = runs.goes c.args.from.range inv.goes;
+      below = below-next telling spots c.args.from.range c.args.from.passing stretch next _ runs inv.goes
           inv.below;
       known = inv.known;
       shared = inv.shared;
@@ -81,11 +81,11 @@ count-counted-requires-clause-below c =
     let here = c.loop-turn.here in
     let own = c.in_ok-run.run' in
     let on : here ≡ point here / 3 = omega arith in
-    let goes = subst (λ n. GoesSo spots c.args.range n c.args.passing) on inv.goes in
-    tree-below telling spots c.args.range (point here) (3 * length spots)
+    let goes = subst (λ n. GoesSo spots c.args.from.range n c.args.from.passing) on inv.goes in
+    tree-below telling spots c.args.from.range (point here) (3 * length spots)
     (length c.loop-turn.known.seen.marks.items) (seen_tree own.tree) inv.below inv.known.size
-    (run-whole telling spots c.args.range here c.args.passing own inv.goes c.in_ok-run.ensures.run
-    c.in-None-next.is c.args.range goes)
+    (run-whole telling spots c.args.from.range here c.args.from.passing own inv.goes c.in_ok-run.ensures.run
+    c.in-None-next.is c.args.from.range goes)
 
 pub returns-in-None-next-clause-comes : goal.returns-in-None-next-clause-comes
 returns-in-None-next-clause-comes c =
@@ -99,11 +99,11 @@ returns-in-None-next-clause-comes c =
     let tree = seen_tree own.tree in
     let part = c.in_ok-part-in-None-next.part in
     let is = part-counted telling spots known counted inv.known tree part c.in_ok-part-in-None-next.ensures
-    (point here) c.args.passing (run-whole telling spots c.args.range here c.args.passing own
+    (point here) c.args.from.passing (run-whole telling spots c.args.from.range here c.args.from.passing own
     inv.goes c.in_ok-run.ensures.run c.in-None-next.is) in (
       here,
       inv.leads,
-      subst (λ js. IsPartAt telling spots js.items (point here) c.args.passing part)
+      subst (λ js. IsPartAt telling spots js.items (point here) c.args.from.passing part)
           (sym c.in_ok-keep-in-None-next.ensures.jumps) is,
     )
 
@@ -119,11 +119,11 @@ returns-in-None-next-clause-known c =
     let tree = seen_tree own.tree in
     let part = c.in_ok-part-in-None-next.part in
     let is = part-counted telling spots known counted inv.known tree part c.in_ok-part-in-None-next.ensures
-    (point here) c.args.passing (run-whole telling spots c.args.range here c.args.passing own
+    (point here) c.args.from.passing (run-whole telling spots c.args.from.range here c.args.from.passing own
     inv.goes c.in_ok-run.ensures.run c.in-None-next.is) in
     let on : point here ≡ here * 3 = omega arith in
     known-kept telling spots counted c.keep.new.self
     (known-counted telling spots known counted inv.known tree part c.in_ok-part-in-None-next.ensures) (here * 3)
-    c.args.passing part c.in_ok-keep-in-None-next.ensures.kept c.in_ok-keep-in-None-next.ensures.jumps
+    c.args.from.passing part c.in_ok-keep-in-None-next.ensures.kept c.in_ok-keep-in-None-next.ensures.jumps
     c.in_ok-keep-in-None-next.ensures.seen c.in_ok-keep-in-None-next.ensures.shared
-    (subst (λ n. IsPartAt telling spots counted.jumps.items n c.args.passing part) on is)
+    (subst (λ n. IsPartAt telling spots counted.jumps.items n c.args.from.passing part) on is)

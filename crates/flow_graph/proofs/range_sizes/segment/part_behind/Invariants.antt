@@ -10,9 +10,9 @@ abbrev pub invariant-loop-turn : goal.invariant-loop-turn
 invariant-loop-turn l = record {
   there : l.here < length l.spots;
   turns : l._turn ≤ l.here;
-  leads : LeadsTo l.telling l.spots l.passing l.place l.stretches.items l.here;
-  goes : GoesSo l.spots l.range l.here l.passing;
-  below : NodeJumpsBelow l.telling l.spots l.range (point l.here) (3 * length l.spots);
+  leads : LeadsTo l.telling l.spots l.from.passing l.from.place l.stretches.items l.here;
+  goes : GoesSo l.spots l.from.range l.here l.from.passing;
+  below : NodeJumpsBelow l.telling l.spots l.from.range (point l.here) (3 * length l.spots);
   known : IsKnown l.telling l.spots l.known;
   shared : l.known.shared ≡ true;
 }
