@@ -1,5 +1,7 @@
 -- two runs, and where they differ
 pub mod DifferingLemmas
+-- a program and what behaves as it does
+pub mod ResultLemmas
 -- what is next of the two
 pub mod NextLemmas
 -- what is known of two runs, by what they have shown so far

@@ -1,9 +1,19 @@
 -- Laws of comparing runs.
-use Rattle.std.specs.Prelude.{ℕ, ◌≡◌, [], ◌∷◌, None, Some}
+use Rattle.std.specs.Prelude.{ℕ, ◌≡◌, List, [], ◌∷◌, None, Some, take}
+use Rattle.cob_tree.specs.declared.program.Program.{Program}
+use Rattle.control_flow_theory.specs.language.Control.{control_of}
+use Rattle.control_flow_theory.specs.language.Structured.{IsStructuredControl}
 use Rattle.control_flow_theory.specs.runs.Run.{Covers}
+use Rattle.control_flow_theory.specs.semantics_agree.Same.{EndsFairly}
+use Rattle.cobol_theory.specs.cobol_meaning.Runs.{Files, source_run}
+use Rattle.cobol_theory.specs.cobol_meaning.Same.{SameBehaviour}
 use Rattle.control_flow_theory.specs.semantics.Outcome.{Abend, Normally, Run, Stopped, Trace}
 use Rattle.trace_compare.specs.declared.compared.Compared.{Compared}
 use Rattle.trace_compare.specs.declared.compared.Compared.TheVariants as compared
+use Rattle.cobol_run.specs.Over.{TellFiles}
+use Rattle.cobol_run.specs.Own.{IsOwn}
+use Rattle.file_model.specs.operations.Seen.{Seen}
+use Rattle.trace_compare.specs.Comparing.{Compares}
 use Rattle.trace_compare.specs.Differing.{Course, DifferAt, IsAnswer, SameWith, answer_of, course_of}
 
 -- each two runs have an answer
@@ -35,6 +45,29 @@ MoreStepsKeep Left = (number : ℕ) (first second first_later second_later : Run
     SameWith number (course_of first_later) (course_of second_later))
     × (DifferAt number (course_of first) (course_of second) →
     DifferAt number (course_of first_later) (course_of second_later))
+
+-- a program that meets no fault of its flow, and a structured one that behaves as it does, differ at
+-- no event, over the same files and however many steps each makes
+abbrev pub ResultsNeverDiffer : Type 0
+ResultsNeverDiffer =
+    (source result : Program) → SameBehaviour source result →
+    IsStructuredControl (control_of result) → (files : Files) →
+    ((steps : ℕ) → EndsFairly (source_run source files steps).standing) →
+    (number steps other_steps : ℕ) →
+    DifferAt number (course_of (source_run source files steps))
+    (course_of (source_run result files other_steps)) → ⊥
+
+-- so where both benches have the same files, comparing them never answers that they differ
+abbrev pub ComparedResultsNeverDiffer : Type 0
+ComparedResultsNeverDiffer =
+    (source result : Program) → SameBehaviour source result →
+    IsStructuredControl (control_of result) → IsOwn source → IsOwn result → (files : Files) →
+    ((steps : ℕ) → EndsFairly (source_run source files steps).standing) →
+    (steps left left_now : ℕ) (old new : List Seen) (other other_now : ℕ)
+    (other_old other_new : List Seen) (came : Compared) →
+    TellFiles source (take left old) files → TellFiles result (take other other_old) files →
+    Compares source result steps left left_now old new other other_now other_old other_new came →
+    (number : ℕ) → came ≡ compared.Differ number → ⊥
 
 -- ---- examples
 

@@ -1,7 +1,5 @@
 -- what is compared of two runs, and where they differ
 pub mod Differing
--- laws of that
-pub mod Laws
 -- an event of a step, and how a program ended
 pub mod Event
 -- one of two programs that run beside each other
@@ -12,3 +10,5 @@ pub mod Next
 pub mod Pair
 -- what comes of comparing two programs
 pub mod Comparing
+-- laws of comparing
+pub mod Laws

@@ -24,8 +24,9 @@ pub use compared::Compared;
 use file_model::operations::Watched;
 use file_model::{Bench, Device};
 pub use laws::{
-    more_steps_keep_the_answer, no_run_differs_from_itself, small_runs_compare_as_said,
-    the_answer_is_the_same_the_other_way_round, two_runs_have_one_answer,
+    more_steps_keep_the_answer, no_run_differs_from_itself, results_never_differ,
+    small_runs_compare_as_said, the_answer_is_the_same_the_other_way_round,
+    two_runs_have_one_answer,
 };
 use pair::{Pair, Verdict};
 use side::Side;
