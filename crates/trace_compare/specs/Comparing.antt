@@ -56,7 +56,7 @@ answered verdict.NoMemory first second = compared.NoMemory
 
 -- ---- what an answer tells
 
--- the answer is that of these runs; a fault or want of memory tells nothing of them
+-- the answer is that of these runs; where a device failed or memory ran out nothing is said of them
 abbrev pub IsOf : Compared → (first second : Course) → Type 0
 IsOf (compared.Same count) first second = IsAnswer (compared.Same count) first second
 IsOf (compared.Differ number) first second = IsAnswer (compared.Differ number) first second

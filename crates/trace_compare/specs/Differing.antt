@@ -39,7 +39,7 @@ course_of run = record { events = run.trace; ended = way_ended run.standing }
 abbrev pub EndsWith : Course → ℕ → Way → Type 0
 EndsWith course count way = (length course.events ≡ count) × (course.ended ≡ Some way)
 
--- behind so many events two runs part
+-- after so many events two runs part
 pub data PartBehind (count : ℕ) (first second : Course) : Type 0 where
   -- both have a next event, and these differ
   OtherEvent : (one other : Event) → slice_get first.events count ≡ Some one →
@@ -60,9 +60,9 @@ pub record DifferAt (number : ℕ) (first second : Course) : Type 0 where
   pub before : ℕ
   -- events are counted from 1
   pub counted : number ≡ suc before
-  -- behind those the runs part
+  -- after those the runs part
   pub part : PartBehind before first second
-  -- and behind fewer they don't
+  -- and after fewer they don't
   pub least : (fewer : ℕ) → fewer < before → PartBehind fewer first second → ⊥
 
 -- two runs ended in the same way, with the same events, so many

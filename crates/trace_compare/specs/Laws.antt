@@ -105,7 +105,7 @@ pub record SmallRunsCompareAs : Type 0 where
   pub longer : answer_of (stopped a_b) (stopped a_b_c) ≡ compared.Differ 3
   -- one stops by a fault
   pub fault : answer_of (stopped a_b) (failed a_b) ≡ compared.Differ 3
-  -- one goes on behind what the other has shown
+  -- one goes on after what the other has shown
   pub on : answer_of (stopped a_b) (going a_b) ≡ compared.Budget
   -- one that goes on differs where it showed another event
   pub apart : answer_of (going a_b_c) (going a_b_d) ≡ compared.Differ 3

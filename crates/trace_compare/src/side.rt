@@ -90,7 +90,7 @@ impl<'a> Side<'a> {
         self.pending() > 0
     }
 
-    /// The event behind so many of those that aren't compared.
+    /// The event after so many of those that aren't compared.
     pub fn event(&self, at: usize) -> Event<'_>
         requires { at < length (pending_of self.now) }
         ensures { slice_get (pending_of self.now) at ≡ Some (event_of result) }
@@ -149,6 +149,7 @@ impl<'a> Side<'a> {
         self.left -= 1;
         let made = advance(&mut self.machine, bench);
         let advanced = self.take(made);
+        // A count that is a `usize` says that the events fit one.
         let _count = self.count();
         advanced
     }
