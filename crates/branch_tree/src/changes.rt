@@ -62,7 +62,7 @@ impl Tree {
     pub fn append_tree(&mut self, by: Tree) -> Option<Tree>
         ensures { GoesOn result (seen_tree by) (seen_tree self.old) (seen_tree self.new) }
     {
-        let Tree { body, end } = by;
+        let (body, end) = by.into_parts();
         match join_bodies(&mut self.body, body) {
             None => {
                 self.end_by(end);

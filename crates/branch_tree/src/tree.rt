@@ -1,5 +1,7 @@
 //! Trees: statements without a jump, and an end.
 
+ghost use Rattle.std.specs.Prelude.{◌≡◌};
+
 use crate::chooser::{Picker, Test};
 use crate::label::Label;
 use cob_base::Items;
@@ -68,10 +70,27 @@ pub enum Piece {
 
 /// Pieces, and then an end. A body grows at both ends, as trees take the place of jumps.
 #[cycle(tree)]
-#[derive(Drop)]
 pub struct Tree {
     pub body: VecDeque<Piece>,
     pub end: End,
+}
+
+impl Drop for Tree {
+    #[cycle(drop_tree)]
+    fn drop(self) {
+        let Tree { body: _, end: _ } = self;
+    }
+}
+
+impl Tree {
+    /// The body, and the end.
+    pub fn into_parts(self) -> (VecDeque<Piece>, End)
+        ensures body { result.0 ≡ self.body }
+        ensures end { result.1 ≡ self.end }
+    {
+        let Tree { body, end } = self;
+        (body, end)
+    }
 }
 
 /// The end of a tree.

@@ -9,7 +9,6 @@
 
 mod acts;
 mod desk;
-mod fault;
 mod record;
 mod status;
 mod work;
@@ -18,5 +17,4 @@ pub use crate::files::acts::{
     ReadRequest, WriteRequest, all_opened, all_shut, read_one, rewritten, written,
 };
 pub use crate::files::desk::close_left;
-pub use crate::files::fault::FileFault;
 pub use crate::files::work::{FileDone, FileVerb, FileWork};

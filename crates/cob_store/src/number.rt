@@ -259,7 +259,8 @@ fn put_displayed(into: &mut [u8], signed: bool, sign: Sign, minus: bool, number:
     }
 }
 
-// The low digits of a number, by shorter arithmetic where it is short.
+// The low digits of a number. Most numbers have no others, and dividing would take longer than all
+// else here.
 fn low_digits(digits: u8, number: u128) -> u64
     requires { digits ≤ 18 }
     ensures value { result ≡ number % 10 ^ digits }
@@ -267,7 +268,7 @@ fn low_digits(digits: u8, number: u128) -> u64
 {
     let count = count_of_digits(digits);
     match u64::try_from(number) {
-        Ok(short) => short % count,
+        Ok(short) => { if short < count { short } else { short % count } }
         Err(_) => (number % u128::from(count)) as u64,
     }
 }

@@ -5,7 +5,7 @@ use cob_base::{Copied, Items, NoMemory};
 use std::alloc::Global;
 
 /// What an arithmetic statement computes.
-#[derive(Debug, Drop)]
+#[derive(Debug)]
 pub enum Calc {
     /// ADD .. TO the targets.
     Add(Items<Operand>),
@@ -25,10 +25,35 @@ pub enum Calc {
 }
 
 /// Where a result goes.
-#[derive(Debug, Drop)]
+#[derive(Debug)]
 pub struct Target {
     pub place: Place,
     pub rounded: bool,
+}
+
+impl Drop for Calc {
+    fn drop(self) {
+        match self {
+            Calc::Add(_) => {}
+            Calc::AddGiving(_) => {}
+            Calc::Subtract(_) => {}
+            Calc::SubtractGiving(_, _) => {}
+            Calc::Multiply(_) => {}
+            Calc::MultiplyGiving(_, _) => {}
+            Calc::Divide(_) => {}
+            Calc::DivideGiving(_, _) => {}
+            Calc::Compute(_) => {}
+        }
+    }
+}
+
+impl Drop for Target {
+    fn drop(self) {
+        let Target {
+            place: _,
+            rounded: _,
+        } = self;
+    }
 }
 
 impl Copied for Calc {

@@ -6,7 +6,7 @@ use cob_base::{Copied, NoMemory};
 use std::alloc::Global;
 
 /// The subject of EVALUATE.
-#[derive(Debug, Drop)]
+#[derive(Debug)]
 pub enum Subject {
     True,
     False,
@@ -14,7 +14,7 @@ pub enum Subject {
 }
 
 /// A test of WHEN.
-#[derive(Debug, Drop)]
+#[derive(Debug)]
 pub enum Test {
     Any,
     Holds(Cond),
@@ -24,6 +24,30 @@ pub enum Test {
         from: Expr,
         to: Option<Expr>,
     },
+}
+
+impl Drop for Subject {
+    fn drop(self) {
+        match self {
+            Subject::True => {}
+            Subject::False => {}
+            Subject::Value(_) => {}
+        }
+    }
+}
+
+impl Drop for Test {
+    fn drop(self) {
+        match self {
+            Test::Any => {}
+            Test::Holds(_) => {}
+            Test::Value {
+                not: _,
+                from: _,
+                to: _,
+            } => {}
+        }
+    }
 }
 
 impl Copied for Subject {

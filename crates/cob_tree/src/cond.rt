@@ -7,7 +7,7 @@ use cob_base::{Boxed, Copied, NoMemory};
 use std::alloc::Global;
 
 /// A condition (ISO 1989:1985, conditional expressions).
-#[derive(Debug, Drop)]
+#[derive(Debug)]
 pub enum Cond {
     Relation(Expr, Rel, Expr),
     /// The last part says NOT.
@@ -45,6 +45,21 @@ pub enum SignKind {
     Positive,
     Negative,
     Zero,
+}
+
+impl Drop for Cond {
+    #[cycle(drop_cond)]
+    fn drop(self) {
+        match self {
+            Cond::Relation(_, _, _) => {}
+            Cond::Class(_, _, _) => {}
+            Cond::SignIs(_, _, _) => {}
+            Cond::Named(_) => {}
+            Cond::Not(_) => {}
+            Cond::And(_, _) => {}
+            Cond::Or(_, _) => {}
+        }
+    }
 }
 
 #[cycle(copy_cond)]

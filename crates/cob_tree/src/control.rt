@@ -6,7 +6,7 @@ use cob_base::{Boxed, Copied, NoMemory};
 use std::alloc::Global;
 
 /// The control of a PERFORM.
-#[derive(Debug, Drop)]
+#[derive(Debug)]
 pub enum Control {
     /// Without TIMES, UNTIL or VARYING; an inline loop never has it.
     Once,
@@ -24,6 +24,23 @@ pub enum Control {
         by: Boxed<Operand>,
         cond: Cond,
     },
+}
+
+impl Drop for Control {
+    fn drop(self) {
+        match self {
+            Control::Once => {}
+            Control::Times(_) => {}
+            Control::Until { after: _, cond: _ } => {}
+            Control::Varying {
+                after: _,
+                item: _,
+                from: _,
+                by: _,
+                cond: _,
+            } => {}
+        }
+    }
 }
 
 impl Copied for Control {

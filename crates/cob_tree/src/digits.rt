@@ -13,13 +13,13 @@ const MOST_DIGITS: usize = 18;
 /// Digits as they were written, with the number that they spell, so that no run has to compute it.
 /// Contracts see the digits alone.
 #[derive(Debug, Drop)]
-pub struct Digits {
+pub struct SpelledDigits {
     text: Text,
     number: Option<u64>,
     ghost decoded: { number ≡ digits_value text },
 }
 
-impl Model for Digits {
+impl Model for SpelledDigits {
     ghost use Rattle.std.specs.Prelude.{List, ℕ};
 
     ghost Value = { List ℕ };
@@ -27,13 +27,13 @@ impl Model for Digits {
     ghost view = { λ d. d.text };
 }
 
-impl Digits {
+impl SpelledDigits {
     /// These digits, with the number that they spell.
-    pub fn new(text: Text) -> Digits
+    pub fn new(text: Text) -> SpelledDigits
         ensures { result ≡ text }
     {
         let number = digits_value(text.as_slice());
-        Digits { text, number }
+        SpelledDigits { text, number }
     }
 
     /// The digits as bytes.
@@ -51,16 +51,16 @@ impl Digits {
     }
 }
 
-impl Copied for Digits {
-    fn copy(&self, alloc: Global) -> Result<Digits, NoMemory> {
-        Ok(Digits {
+impl Copied for SpelledDigits {
+    fn copy(&self, alloc: Global) -> Result<SpelledDigits, NoMemory> {
+        Ok(SpelledDigits {
             text: self.text.copy(alloc)?,
             number: self.number,
         })
     }
 }
 
-impl PartialEq for Digits {
+impl PartialEq for SpelledDigits {
     ghost use Rattle.std.proofs.Common.{rules};
     ghost use Rattle.std.specs.Cmp.Rules.{comparing};
     ghost use Rattle.std.specs.Str.{bytes_eq};
@@ -69,12 +69,12 @@ impl PartialEq for Digits {
 
     ghost laws = { Prim.search (comparing, rules) };
 
-    fn eq(&self, other: &Digits) -> bool {
+    fn eq(&self, other: &SpelledDigits) -> bool {
         self.as_slice() == other.as_slice()
     }
 }
 
-impl Eq for Digits {
+impl Eq for SpelledDigits {
     ghost use Rattle.std.proofs.Common.{rules};
     ghost use Rattle.std.specs.Cmp.Rules.{comparing};
 

@@ -6,7 +6,7 @@ use cob_base::{Copied, Items, NoMemory, Word};
 use std::alloc::Global;
 
 /// A data description entry.
-#[derive(Debug, Drop)]
+#[derive(Debug)]
 pub struct Entry {
     pub level: u8,
     /// None for FILLER.
@@ -25,10 +25,33 @@ pub struct Entry {
 }
 
 /// A value of a condition name, or all from one to another.
-#[derive(Debug, Drop)]
+#[derive(Debug)]
 pub struct Span {
     pub from: Operand,
     pub to: Option<Operand>,
+}
+
+impl Drop for Entry {
+    fn drop(self) {
+        let Entry {
+            level: _,
+            name: _,
+            file: _,
+            redefines: _,
+            picture: _,
+            sign: _,
+            usage: _,
+            occurs: _,
+            value: _,
+            ranges: _,
+        } = self;
+    }
+}
+
+impl Drop for Span {
+    fn drop(self) {
+        let Span { from: _, to: _ } = self;
+    }
 }
 
 impl Copied for Entry {

@@ -5,7 +5,7 @@ use cob_base::{Copied, NoMemory, Text, Word};
 use std::alloc::Global;
 
 /// A file: its SELECT and its FD.
-#[derive(Debug, Drop)]
+#[derive(Debug)]
 pub struct FileEntry {
     pub name: Word,
     /// The device's name for it.
@@ -29,6 +29,16 @@ pub struct Opening {
     pub how: How,
     /// The file, by its place among the files.
     pub file: u32,
+}
+
+impl Drop for FileEntry {
+    fn drop(self) {
+        let FileEntry {
+            name: _,
+            assign: _,
+            status: _,
+        } = self;
+    }
 }
 
 impl Copied for FileEntry {

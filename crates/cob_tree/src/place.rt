@@ -11,7 +11,7 @@ use std::alloc::Global;
 
 /// A reference to data (ISO 1989:1985, uniqueness of reference).
 #[cycle(place)]
-#[derive(Debug, Drop)]
+#[derive(Debug)]
 pub struct Place {
     /// The entry, by its place among the entries; from 2^31 upward an added item.
     pub item: u32,
@@ -23,7 +23,7 @@ pub struct Place {
 
 /// A subscript: an item's value and a number, or the number alone.
 #[cycle(place)]
-#[derive(Debug, Drop)]
+#[derive(Debug)]
 pub struct Sub {
     pub base: Option<Boxed<Place>>,
     pub plus: Number,
@@ -31,7 +31,7 @@ pub struct Sub {
 
 /// A part of an item: the first character, from 1, and how many; without a length, to the end.
 #[cycle(place)]
-#[derive(Debug, Drop)]
+#[derive(Debug)]
 pub struct Window {
     pub from: Expr,
     pub length: Option<Expr>,
@@ -39,7 +39,7 @@ pub struct Window {
 
 /// What a statement works on.
 #[cycle(place)]
-#[derive(Debug, Drop)]
+#[derive(Debug)]
 pub enum Operand {
     Place(Place),
     Number(Number),
@@ -60,7 +60,7 @@ pub enum Figure {
 
 /// An arithmetic expression.
 #[cycle(place)]
-#[derive(Debug, Drop)]
+#[derive(Debug)]
 pub enum Expr {
     Leaf(Operand),
     /// The negative.
@@ -75,6 +75,55 @@ pub enum Op {
     Sub,
     Mul,
     Div,
+}
+
+impl Drop for Place {
+    #[cycle(drop_place)]
+    fn drop(self) {
+        let Place {
+            item: _,
+            of: _,
+            subs: _,
+            window: _,
+        } = self;
+    }
+}
+
+impl Drop for Sub {
+    #[cycle(drop_place)]
+    fn drop(self) {
+        let Sub { base: _, plus: _ } = self;
+    }
+}
+
+impl Drop for Window {
+    #[cycle(drop_place)]
+    fn drop(self) {
+        let Window { from: _, length: _ } = self;
+    }
+}
+
+impl Drop for Operand {
+    #[cycle(drop_place)]
+    fn drop(self) {
+        match self {
+            Operand::Place(_) => {}
+            Operand::Number(_) => {}
+            Operand::Text(_) => {}
+            Operand::Figure(_) => {}
+        }
+    }
+}
+
+impl Drop for Expr {
+    #[cycle(drop_place)]
+    fn drop(self) {
+        match self {
+            Expr::Leaf(_) => {}
+            Expr::Minus(_) => {}
+            Expr::Both(_, _, _) => {}
+        }
+    }
 }
 
 #[cycle(copy_place)]

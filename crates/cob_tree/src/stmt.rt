@@ -3,19 +3,21 @@
 //! A statement may hold statements, so the functions that copy them call each other.
 
 ghost use Rattle.cob_base.specs.Answers.{Makes};
+ghost use Rattle.cob_tree.specs.Parts.{AreParts, ArmsAre};
 
 use crate::calc::{Calc, Target};
 use crate::choice::{Subject, Test};
 use crate::cond::Cond;
 use crate::control::Control;
 use crate::file::Opening;
+use crate::parts::{ArmParts, StmtParts};
 use crate::place::{Operand, Place};
 use cob_base::{Copied, Items, NoMemory};
 use std::alloc::Global;
 
 /// The arms of READ, AT END and NOT AT END, and of arithmetic, ON SIZE ERROR and NOT ON SIZE ERROR.
 #[cycle(stmt)]
-#[derive(Debug, Drop)]
+#[derive(Debug)]
 pub struct Arms {
     pub first: Option<Items<Stmt>>,
     pub second: Option<Items<Stmt>>,
@@ -23,7 +25,7 @@ pub struct Arms {
 
 /// WHEN phrases of EVALUATE that share their statements; one test that holds is enough.
 #[cycle(stmt)]
-#[derive(Debug, Drop)]
+#[derive(Debug)]
 pub struct When {
     pub tests: Items<Test>,
     pub stmts: Items<Stmt>,
@@ -31,7 +33,7 @@ pub struct When {
 
 /// A statement. A required list of it is never empty.
 #[cycle(stmt)]
-#[derive(Debug, Drop)]
+#[derive(Debug)]
 pub enum Stmt {
     /// `advance` is false with NO ADVANCING.
     Display {
@@ -106,6 +108,137 @@ pub enum Stmt {
         cycle: bool,
     },
     Continue,
+}
+
+impl Drop for Arms {
+    #[cycle(drop_stmt)]
+    fn drop(self) {
+        let Arms {
+            first: _,
+            second: _,
+        } = self;
+    }
+}
+
+impl Drop for When {
+    #[cycle(drop_stmt)]
+    fn drop(self) {
+        let When { tests: _, stmts: _ } = self;
+    }
+}
+
+impl Drop for Stmt {
+    #[cycle(drop_stmt)]
+    fn drop(self) {
+        match self {
+            Stmt::Display {
+                items: _,
+                advance: _,
+            } => {}
+            Stmt::Move { from: _, to: _ } => {}
+            Stmt::Arith {
+                calc: _,
+                into: _,
+                arms: _,
+            } => {}
+            Stmt::SetTrue(_) => {}
+            Stmt::Opens(_) => {}
+            Stmt::Closes(_) => {}
+            Stmt::Read {
+                file: _,
+                into: _,
+                arms: _,
+            } => {}
+            Stmt::Write { entry: _, from: _ } => {}
+            Stmt::Rewrite { entry: _, from: _ } => {}
+            Stmt::If {
+                cond: _,
+                yes: _,
+                no: _,
+            } => {}
+            Stmt::Evaluate {
+                subject: _,
+                whens: _,
+                other: _,
+            } => {}
+            Stmt::Loop {
+                control: _,
+                body: _,
+            } => {}
+            Stmt::Perform {
+                entry: _,
+                exit: _,
+                control: _,
+            } => {}
+            Stmt::Go(_) => {}
+            Stmt::GoDepending { to: _, on: _ } => {}
+            Stmt::NextSentence => {}
+            Stmt::StopRun => {}
+            Stmt::Exit => {}
+            Stmt::ExitParagraph => {}
+            Stmt::ExitSection => {}
+            Stmt::ExitPerform { cycle: _ } => {}
+            Stmt::Continue => {}
+        }
+    }
+}
+
+impl Stmt {
+    /// The statement, taken apart.
+    pub fn into_parts(self) -> StmtParts
+        ensures { AreParts self result }
+    {
+        match self {
+            Stmt::Display { items, advance } => StmtParts::Display { items, advance },
+            Stmt::Move { from, to } => StmtParts::Move { from, to },
+            Stmt::Arith { calc, into, arms } => StmtParts::Arith { calc, into, arms },
+            Stmt::SetTrue(place) => StmtParts::SetTrue(place),
+            Stmt::Opens(openings) => StmtParts::Opens(openings),
+            Stmt::Closes(files) => StmtParts::Closes(files),
+            Stmt::Read { file, into, arms } => StmtParts::Read { file, into, arms },
+            Stmt::Write { entry, from } => StmtParts::Write { entry, from },
+            Stmt::Rewrite { entry, from } => StmtParts::Rewrite { entry, from },
+            Stmt::If { cond, yes, no } => StmtParts::If { cond, yes, no },
+            Stmt::Evaluate {
+                subject,
+                whens,
+                other,
+            } => StmtParts::Evaluate {
+                subject,
+                whens,
+                other,
+            },
+            Stmt::Loop { control, body } => StmtParts::Loop { control, body },
+            Stmt::Perform {
+                entry,
+                exit,
+                control,
+            } => StmtParts::Perform {
+                entry,
+                exit,
+                control,
+            },
+            Stmt::Go(to) => StmtParts::Go(to),
+            Stmt::GoDepending { to, on } => StmtParts::GoDepending { to, on },
+            Stmt::NextSentence => StmtParts::NextSentence,
+            Stmt::StopRun => StmtParts::StopRun,
+            Stmt::Exit => StmtParts::Exit,
+            Stmt::ExitParagraph => StmtParts::ExitParagraph,
+            Stmt::ExitSection => StmtParts::ExitSection,
+            Stmt::ExitPerform { cycle } => StmtParts::ExitPerform { cycle },
+            Stmt::Continue => StmtParts::Continue,
+        }
+    }
+}
+
+impl Arms {
+    /// The arms, taken apart.
+    pub fn into_parts(self) -> ArmParts
+        ensures { ArmsAre self result }
+    {
+        let Arms { first, second } = self;
+        ArmParts { first, second }
+    }
 }
 
 #[cycle(copy_stmt)]

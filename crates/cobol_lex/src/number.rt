@@ -13,7 +13,7 @@ use crate::fault::{LexError, LexFault};
 use crate::token::TokenKind;
 use crate::word::word_kind;
 use cob_base::{Boxed, NoMemory, Text};
-use cob_tree::{Digits, Number};
+use cob_tree::{Number, SpelledDigits};
 use std::alloc::Global;
 
 /// The most digits that a number can have.
@@ -132,7 +132,7 @@ fn decimal_kind(alloc: Global, line: u32, run: &[u8], bytes: &[u8]) -> Result<To
     }
     let number = Number {
         negative: matches!(run, [b'-', ..]),
-        digits: Digits::new(digits),
+        digits: SpelledDigits::new(digits),
         scale: scale_of(bytes) as u8,
     };
     Ok(TokenKind::Decimal(Boxed::new(alloc, number)?))

@@ -10,8 +10,8 @@ use Rattle.cob_base.specs.Bytes.{comma}
 use Rattle.cob_base.specs.Spelling.{word_byte}
 use Rattle.edit_fields.specs.declared.fault.MaskFault.{MaskFault}
 use Rattle.edit_fields.specs.declared.shape.Shape.{Shape}
-use Rattle.edit_fields.specs.declared.reading.Place.{Place}
-use Rattle.edit_fields.specs.declared.reading.Place.TheVariants as places
+use Rattle.edit_fields.specs.declared.reading.SymbolPlace.{SymbolPlace}
+use Rattle.edit_fields.specs.declared.reading.SymbolPlace.TheVariants as places
 use Rattle.edit_fields.specs.declared.extent.Extent.{Extent}
 use Rattle.edit_fields.specs.declared.reading.Reading.{Reading}
 use Rattle.edit_fields.specs.Symbol.{is_sign, is_suppressor, is_insertion, is_point, is_tail_letter, is_symbol, symbol_9, symbol_comma, symbol_dollar, symbol_period, symbol_r, symbol_v}
@@ -91,7 +91,7 @@ count-byte n at count u reading next = go (is_digit u) refl (u == right_parenthe
     go false d true f is = parenthesis-byte u (or-right (u == left_parenthesis) (u == right_parenthesis) f)
     go false d false f is = absurd cc
 
-step-byte : (place : Place) (n u : ℕ) (reading next : Reading) → step_by place n u reading ≡ Ok next → is_byte u ≡ true
+step-byte : (place : SymbolPlace) (n u : ℕ) (reading next : Reading) → step_by place n u reading ≡ Ok next → is_byte u ≡ true
 step-byte places.Open n u reading next is = symbol-byte n u reading next is
 step-byte (places.Behind at) n u reading next is = go (u == left_parenthesis) refl is
   where
@@ -129,7 +129,7 @@ stop-no-right u h = grind (arith, nat_tests)
 stop-no-digit : (u : ℕ) → is_stop u ≡ true → is_digit u ≡ false
 stop-no-digit u h = grind (arith, nat_tests)
 
-placed-extent : (fault : MaskFault) (place : Place) (made next : Reading) → placed fault place (Some made) ≡ Ok next → next.extent ≡ made.extent
+placed-extent : (fault : MaskFault) (place : SymbolPlace) (made next : Reading) → placed fault place (Some made) ≡ Ok next → next.extent ≡ made.extent
 placed-extent fault place made next e = cc
 
 -- a symbol is the last one then
@@ -143,7 +143,7 @@ symbol-last n u reading next = go (behind u reading.shape)
         ∙ longer_last u reading.extent
 
 -- a period or a comma is a symbol, wherever it stands
-stop-last : (place : Place) (n u : ℕ) (reading next : Reading) → is_stop u ≡ true → step_by place n u reading ≡ Ok next → next.extent.last ≡ u
+stop-last : (place : SymbolPlace) (n u : ℕ) (reading next : Reading) → is_stop u ≡ true → step_by place n u reading ≡ Ok next → next.extent.last ≡ u
 stop-last places.Open n u reading next stop is = symbol-last n u reading next is
 stop-last (places.Behind at) n u reading next stop is =
     symbol-last n u reading next (subst (λ b. (if b then Ok (record reading { place = places.Count at 0 }) else symbol n u reading) ≡ Ok next) (stop-no-left u stop) is)

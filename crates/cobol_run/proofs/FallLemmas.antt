@@ -4,8 +4,8 @@ use Rattle.cob_base.specs.declared.memory.NoMemory.{NoMemory}
 use Rattle.cob_act.specs.declared.acting.ActOutcome.{ActOutcome}
 use Rattle.cob_act.specs.declared.acting.ActOutcome.TheVariants as dones
 use Rattle.cob_act.specs.files.Ends.{BrokeOver, DoneOver}
-use Rattle.cob_act.specs.declared.files.fault.FileFault.{FileFault}
-use Rattle.cob_act.specs.declared.files.fault.FileFault.TheVariants as faults
+use Rattle.file_model.specs.declared.operations.fault.FileFault.{FileFault}
+use Rattle.file_model.specs.declared.operations.fault.FileFault.TheVariants as faults
 use Rattle.cob_tree.specs.declared.file.FileEntry.{FileEntry}
 use Rattle.file_model.specs.declared.table.FileRow.{FileRow}
 use Rattle.file_model.specs.operations.Calls.{addresses_of}

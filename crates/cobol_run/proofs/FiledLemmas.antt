@@ -12,7 +12,7 @@ use Rattle.cob_tree.specs.declared.stmt.Stmt.TheVariants as stmts
 use Rattle.file_model.specs.declared.table.FileRow.{FileRow}
 use Rattle.file_model.specs.World.{World}
 use Rattle.file_model.specs.operations.Seen.{Seen}
-use Rattle.cob_act.specs.declared.files.fault.FileFault.{FileFault}
+use Rattle.file_model.specs.declared.operations.fault.FileFault.{FileFault}
 use Rattle.cob_act.specs.files.Ends.{ended_as}
 use Rattle.cob_act.specs.declared.files.work.FileWork.{FileWork}
 use Rattle.cob_act.specs.files.Over.{BreaksIn, BrokeIn, Did, world_behind}

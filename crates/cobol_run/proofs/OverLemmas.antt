@@ -1,8 +1,8 @@
 -- A step over devices that tell their files.
 use Rattle.meanings.specs.statements.Filing.{Operation}
 use Rattle.std.proofs.Common.{◌≡◌, ℕ, Result, Ok, Err, List, ◌++◌, [], refl, sym, subst}
-use Rattle.cob_act.specs.declared.files.fault.FileFault.{FileFault}
-use Rattle.cob_act.specs.declared.files.fault.FileFault.TheVariants as faults
+use Rattle.file_model.specs.declared.operations.fault.FileFault.{FileFault}
+use Rattle.file_model.specs.declared.operations.fault.FileFault.TheVariants as faults
 use Rattle.cob_act.specs.files.Ends.{BrokeOver}
 use Rattle.cob_base.specs.declared.memory.NoMemory.{NoMemory}
 use Rattle.std.specs.Prelude.{IfOk, IsErr}

@@ -16,7 +16,7 @@ use Rattle.file_model.specs.operations.Shutting.{LeavesFiles}
 use Rattle.file_model.proofs.operations_lemmas.FallLemmas.{left_same}
 use Rattle.file_model.proofs.operations_lemmas.ShutLemmas.{left_standing}
 use Rattle.cob_base.specs.declared.memory.NoMemory.{NoMemory}
-use Rattle.cob_act.specs.declared.files.fault.FileFault.TheVariants as faults
+use Rattle.file_model.specs.declared.operations.fault.FileFault.TheVariants as faults
 use Rattle.cob_act.specs.files.Ends.{gone_by}
 use Rattle.meanings.specs.statements.Filing.{Declared, Operation}
 use Rattle.control_flow_theory.specs.runs.Run.{Over}

@@ -16,9 +16,9 @@ use Rattle.file_model.specs.Attempts.{Attempt, read_at}
 use Rattle.file_model.specs.World.{World}
 use Rattle.file_model.specs.World as verbs
 use Rattle.file_model.specs.operations.Seen.{Seen}
-use Rattle.cob_act.specs.declared.files.fault.FileFault.{FileFault}
+use Rattle.file_model.specs.declared.operations.fault.FileFault.{FileFault}
 use Rattle.cob_act.specs.files.Ends.{ended_as}
-use Rattle.cob_act.specs.declared.files.fault.FileFault.TheVariants as faults
+use Rattle.file_model.specs.declared.operations.fault.FileFault.TheVariants as faults
 use Rattle.cob_act.specs.declared.files.work.FileWork.{FileWork}
 use Rattle.cob_act.specs.files.Over.{BreaksIn, BrokeIn, Did, IsOver, world_behind}
 use Rattle.cob_act.specs.files.Work.{Keeps}

@@ -2,7 +2,7 @@
 use Rattle.std.proofs.Common.{◌≡◌, ◌∙◌, sym, subst, ap, refl, ℕ, suc, ◌+◌, ◌-◌, ◌<◌, ◌≤◌, ◌^◌, arith, Bool, true, IsTrue, List, [], ◌∷◌, ◌++◌, length, replicate, take, Option, None, Result, Ok, Err, slice_get}
 use Rattle.std.specs.Prelude.{IfOk, IfSome}
 use Rattle.cob_base.specs.declared.memory.NoMemory.{NoMemory}
-use Rattle.cob_act.specs.declared.files.fault.FileFault.TheVariants as faults
+use Rattle.file_model.specs.declared.operations.fault.FileFault.TheVariants as faults
 use Rattle.cob_act.specs.files.Ends.{BrokeOver}
 use Rattle.cob_tree.specs.declared.file.FileEntry.{FileEntry}
 use Rattle.cob_tree.specs.declared.program.Program.{Program}

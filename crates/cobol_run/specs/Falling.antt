@@ -7,7 +7,7 @@ use Rattle.file_model.specs.Told.{Counts}
 use Rattle.file_model.specs.operations.Calls.{addresses_of}
 use Rattle.file_model.specs.operations.Seen.{Seen, device_found}
 use Rattle.file_model.specs.operations.Falling.{LeftOf, is_used}
-use Rattle.cob_act.specs.declared.files.fault.FileFault.TheVariants as faults
+use Rattle.file_model.specs.declared.operations.fault.FileFault.TheVariants as faults
 use Rattle.cob_act.specs.files.Ends.{BrokeOver}
 use Rattle.cobol_run.specs.declared.machine.StepOutcome.{StepOutcome}
 use Rattle.cobol_run.specs.declared.machine.StepOutcome.TheVariants as step

@@ -13,9 +13,9 @@ use Rattle.file_model.specs.World.{World, shelf_found}
 use Rattle.file_model.specs.operations.Calls.{addresses_of}
 use Rattle.file_model.specs.operations.Seen.{Seen, device_found}
 use Rattle.file_model.specs.operations.Standing.{SameShelf, TellUsed}
-use Rattle.cob_act.specs.declared.files.fault.FileFault.{FileFault}
+use Rattle.file_model.specs.declared.operations.fault.FileFault.{FileFault}
 use Rattle.cob_act.specs.files.Over.{BrokeIn, IsOver, world_behind}
-use Rattle.cob_act.specs.declared.files.fault.FileFault.TheVariants as faults
+use Rattle.file_model.specs.declared.operations.fault.FileFault.TheVariants as faults
 use Rattle.cob_act.specs.files.Ends.{gone_by}
 use Rattle.cob_base.specs.declared.memory.NoMemory.{NoMemory}
 use Rattle.meanings.specs.statements.Filing.{Operation}

@@ -23,13 +23,12 @@ use crate::frames::push_stmts;
 use crate::held::{Held, Plan};
 use crate::next_step::stmts_or_none;
 use cob_act::files::{
-    FileFault, FileWork, ReadRequest, WriteRequest, all_opened, all_shut, read_one, rewritten,
-    written,
+    FileWork, ReadRequest, WriteRequest, all_opened, all_shut, read_one, rewritten, written,
 };
 use cob_act::{ActOutcome, has_arms};
 use cob_store::Stack;
 use cob_tree::{Arms, Place, Stmt};
-use file_model::operations::Watched;
+use file_model::operations::{FileFault, Watched};
 use file_model::{Bench, Device, FileTable};
 
 /// Whether a statement is one on files.

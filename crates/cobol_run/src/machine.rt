@@ -27,11 +27,11 @@ use crate::held::{Held, Plan};
 use crate::next_step::{NextStep, turning_way};
 use crate::statement::{performed_once, stmt_way};
 use cob_act::ActOutcome;
-use cob_act::files::{FileFault, FileWork};
+use cob_act::files::FileWork;
 use cob_base::{NoMemory, Text};
 use cob_store::Stack;
 use cob_tree::{Abend, FlowFault, Paragraph, Stmt};
-use file_model::operations::Watched;
+use file_model::operations::{FileFault, Watched};
 use file_model::{Bench, Device, FileTable};
 
 /// How a run ends by itself.

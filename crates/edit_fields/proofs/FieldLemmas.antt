@@ -1,11 +1,13 @@
 -- A number that is cut, and its digits.
-use Rattle.std.proofs.Common.{◌≡◌, ℕ, zero, suc, ◌+◌, ◌-◌, ◌/◌, ◌%◌, ◌^◌, ◌<◌, ◌≤◌, ℤ, pos, negsuc, neg_ℤ, unsigned_abs, refl, ap, sym, ◌∙◌, arith}
+use Rattle.std.proofs.Common.{◌≡◌, ℕ, zero, suc, ◌+◌, ◌-◌, ◌/◌, ◌%◌, ◌^◌, ◌<◌, ◌≤◌, ℤ, pos, negsuc, neg_ℤ, unsigned_abs, List, [], ◌∷◌, ◌++◌, length, take, set, slice_get, Some, None, refl, ap, sym, ◌∙◌, arith}
 use Rattle.std.proofs.Math.Nat.{mod-lt, pow-le-pow_right, one-le-pow}
+use Rattle.std.proofs.lemmas.List.{take_more_set}
+use native.Mathlib.Numerals.{unary_clauses}
 use Rattle.cob_num.specs.declared.number.Dec.{Dec}
 use Rattle.cob_num.specs.Storing.{with_sign, whole_units}
 use Rattle.edit_fields.specs.declared.shape.Shape.{Shape}
 use Rattle.edit_fields.specs.Shape.{digits}
-use Rattle.edit_fields.specs.Field.{IsNumber, cut, digit_of}
+use Rattle.edit_fields.specs.Field.{IsNumber, cut, digit_of, numerals}
 
 size_of_negated : (n : ℕ) → unsigned_abs (neg_ℤ (pos n)) ≡ n
 size_of_negated zero = refl
@@ -28,13 +30,60 @@ cut_fits value shape is =
     let most : 10 ^ digits shape ≤ 10 ^ 18 = pow-le-pow_right (omega arith) is.few_digits in
     omega (arith, most, cut_short value shape)
 
--- one place on
-pub place_on : (right place rest all : ℕ) → place < right → all ≡ digit_of (right - place) rest → all ≡ digit_of (right - (place + 1)) (rest / 10)
-place_on right place rest all h is =
-    let one : right - place ≡ suc (right - (place + 1)) = omega arith in
-    is ∙ ap (λ n. digit_of n rest) one
+-- ---- the digits of a number, from the right
 
-pub last_place : (right place rest all : ℕ) → place ≡ right → all ≡ digit_of (right - place) rest → rest % 10 ≡ all
-last_place right place rest all h is =
-    let none : right - place ≡ 0 = omega arith in
-    sym (is ∙ ap (λ n. digit_of n rest) none)
+append_one : (xs : List ℕ) (y : ℕ) (ys : List ℕ) → xs ++ y ∷ ys ≡ (xs ++ y ∷ []) ++ ys
+append_one [] y ys = refl
+append_one (x ∷ xs) y ys = ap (λ l. x ∷ l) (append_one xs y ys)
+
+-- one digit more is taken
+pub numeral_put : (taken all : List ℕ) (place rest : ℕ) → place < 20 → length taken ≡ 20 → all ≡ take place taken ++ numerals (20 - place) rest → all ≡ take (place + 1) (set taken place (rest % 10)) ++ numerals (20 - (place + 1)) (rest / 10)
+unfolding numerals
+numeral_put taken all place rest h full is =
+    let one : 20 - place ≡ suc (20 - (place + 1)) = omega arith in
+    let inside : place < length taken = omega (arith, full) in
+    is ∙ ap (λ n. take place taken ++ numerals n rest) one
+    ∙ append_one (take place taken) (rest % 10) (numerals (20 - (place + 1)) (rest / 10))
+    ∙ ap (λ l. l ++ numerals (20 - (place + 1)) (rest / 10)) (sym (take_more_set taken place (rest % 10) inside))
+
+take_all : (xs : List ℕ) → take (length xs) xs ≡ xs
+take_all [] = refl
+take_all (x ∷ xs) = ap (λ l. x ∷ l) (take_all xs)
+
+append_none : (xs : List ℕ) → xs ++ [] ≡ xs
+append_none [] = refl
+append_none (x ∷ xs) = ap (λ l. x ∷ l) (append_none xs)
+
+-- all are taken
+pub all_taken : (taken all : List ℕ) (place rest : ℕ) → place ≡ 20 → length taken ≡ 20 → all ≡ take place taken ++ numerals (20 - place) rest → taken ≡ all
+unfolding numerals
+all_taken taken all place rest e full is =
+    let none : 20 - place ≡ 0 = omega arith in
+    sym (is ∙ ap (λ n. take place taken ++ numerals n rest) none ∙ append_none (take place taken)
+    ∙ ap (λ n. take n taken) (e ∙ sym full) ∙ take_all taken)
+
+pub numeral_at : (count right number digit : ℕ) → slice_get (numerals count number) right ≡ Some digit → digit ≡ digit_of right number
+unfolding numerals
+numeral_at zero zero number digit e = absurd cc
+numeral_at zero (suc right) number digit e = absurd cc
+numeral_at (suc count) zero number digit e = cc
+numeral_at (suc count) (suc right) number digit e = numeral_at count right (number / 10) digit e
+
+none_of_zero : (right : ℕ) → digit_of right 0 ≡ 0
+none_of_zero zero = refl
+none_of_zero (suc right) = none_of_zero right
+
+-- a number has no digit other than zero behind all that are taken
+pub none_behind : (count right number : ℕ) → slice_get (numerals count number) right ≡ None → number < 10 ^ count → digit_of right number ≡ 0
+unfolding numerals
+none_behind zero right number e h =
+    let none : number ≡ 0 = omega arith in
+    ap (digit_of right) none ∙ none_of_zero right
+none_behind (suc count) zero number e h = absurd cc
+none_behind (suc count) (suc right) number e h =
+    let less = simp unary_clauses at h in
+    none_behind count right (number / 10) e (omega (arith, less))
+
+pub one_numeral : (right number : ℕ) → digit_of right number ≤ 9
+one_numeral zero number = omega arith
+one_numeral (suc right) number = one_numeral right (number / 10)

@@ -1,18 +1,21 @@
 -- A mask as a program holds it: how its counts are written out, and that it is short and in capitals.
-use Rattle.std.proofs.Common.{◌≡◌, ℕ, zero, suc, ◌+◌, ◌-◌, ◌<◌, ◌≤◌, ◌==◌, true, false, if◌then◌else◌, List, [], ◌∷◌, ◌++◌, length, map, get_or, drop, replicate, Option, Some, None, refl, sym, ap, ◌∙◌, arith, add-one, drop-cons}
+use Rattle.std.proofs.Common.{◌≡◌, ℕ, zero, suc, ◌+◌, ◌-◌, ◌<◌, ◌≤◌, ◌==◌, true, false, if◌then◌else◌, List, [], ◌∷◌, ◌++◌, length, map, get_or, drop, replicate, Option, Some, None, refl, sym, ap, ◌∙◌, subst, arith, add-one, drop-cons}
 use Rattle.std.proofs.Math.Seq.{drop-length}
 use Rattle.std.proofs.lemmas.List.{length-append, map-append}
 use Rattle.std.proofs.lemmas.Bool.{eq-eqb, ne_eqb}
 use Rattle.std.proofs.lemmas.Str.Ascii.{uppercase-uppercase}
 use Rattle.std.specs.Char.{to_ascii_uppercase}
 use Rattle.edit_fields.specs.Symbol.{symbol_v}
+use Rattle.edit_fields.specs.declared.shape.Shape.{Shape}
 use Rattle.edit_fields.specs.Shape.{empty}
+use Rattle.edit_fields.specs.Field.{IsNumber, shape_of}
 use Rattle.edit_fields.specs.Extent.{no_extent}
-use Rattle.edit_fields.specs.declared.reading.Place.TheVariants as places
+use Rattle.edit_fields.specs.declared.reading.SymbolPlace.TheVariants as places
 use Rattle.edit_fields.specs.Reading.{counted, is_digit, left_parenthesis, mask_fault_of, written_from, written_out}
 use Rattle.edit_fields.specs.Edited.{one_more, shown_size}
 use Rattle.edit_fields.specs.Mask.{IsHeldMask}
 use Rattle.edit_fields.proofs.BranchLemmas.{either_way, then_taken, else_taken}
+use Rattle.edit_fields.proofs.MaskLemmas.{mask_number}
 use Rattle.edit_fields.proofs.MasksAreWrittenOut.{masks_are_written_out}
 use Rattle.edit_fields.proofs.PrintedMasksAreRead.{mask_short}
 
@@ -147,3 +150,7 @@ pub held_short : (mask : List ℕ) → IsHeldMask mask → length mask ≤ 160
 held_short mask h =
     let short : 0 + length mask ≤ 160 = mask_short mask 0 empty no_extent places.Open refl h.capitals h.is_mask.written_out h.is_mask.no_fault in
     omega (arith, short)
+
+-- it has as many digits as a number
+pub held_number : (mask : List ℕ) (shape : Shape) → IsHeldMask mask → shape ≡ shape_of mask → IsNumber shape.whole shape.part
+held_number mask shape h is = subst (λ (s : Shape). IsNumber s.whole s.part) (sym is) (mask_number mask h.is_mask)

@@ -7,8 +7,8 @@ use Rattle.std.specs.Char.{to_ascii_uppercase}
 use Rattle.std.specs.Prelude.{unwrap_or}
 use Rattle.edit_fields.specs.declared.fault.MaskFault.{MaskFault}
 use Rattle.edit_fields.specs.declared.shape.Shape.{Shape}
-use Rattle.edit_fields.specs.declared.reading.Place.{Place}
-use Rattle.edit_fields.specs.declared.reading.Place.TheVariants as places
+use Rattle.edit_fields.specs.declared.reading.SymbolPlace.{SymbolPlace}
+use Rattle.edit_fields.specs.declared.reading.SymbolPlace.TheVariants as places
 use Rattle.edit_fields.specs.declared.reading.Reading.{Reading}
 use Rattle.edit_fields.specs.Symbol.{symbol_v}
 use Rattle.edit_fields.specs.Shape.{behind, digits, empty, is_half, is_whole}
@@ -48,7 +48,7 @@ not_upper byte h =
     let left = or_parts (byte == left_parenthesis) (byte == right_parenthesis) h in
     ne_eqb (to_ascii_uppercase byte) 40 (λ e. eqb-false byte 40 left.0 (upper_parenthesis byte e))
 
-pub step_symbol : (place : Place) (position byte : ℕ) (reading : Reading) → is_counting place ≡ false → (byte == left_parenthesis) ≡ false → step_by place position byte reading ≡ symbol position byte reading
+pub step_symbol : (place : SymbolPlace) (position byte : ℕ) (reading : Reading) → is_counting place ≡ false → (byte == left_parenthesis) ≡ false → step_by place position byte reading ≡ symbol position byte reading
 step_symbol places.Open position byte reading open_place h = refl
 step_symbol (places.Behind at) position byte reading open_place h = else_taken (byte == left_parenthesis) _ (symbol position byte reading) h
 step_symbol (places.Count at count) position byte reading open_place h = absurd cc
@@ -60,7 +60,7 @@ not_counting false position = refl
 -- the reading goes on behind a symbol, which moves the shape
 pub record GoesOn (n upper : ℕ) (reading : Reading) (rest : List ℕ) : Type 0 where
   pub shape : Shape
-  pub place : Place
+  pub place : SymbolPlace
   pub comes : behind upper reading.shape ≡ Some shape
   pub counts : is_counting place ≡ false
   pub fault : fault_from n (Ok (record { shape = shape; extent = longer upper reading.extent; place = place })) rest ≡ None

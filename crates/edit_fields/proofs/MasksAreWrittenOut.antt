@@ -7,8 +7,8 @@ use Rattle.edit_fields.specs.declared.fault.MaskFault.{MaskFault}
 use Rattle.edit_fields.specs.declared.fault.MaskFault.TheVariants as faults
 use Rattle.edit_fields.specs.declared.shape.Shape.{Shape}
 use Rattle.edit_fields.specs.declared.extent.Extent.{Extent}
-use Rattle.edit_fields.specs.declared.reading.Place.{Place}
-use Rattle.edit_fields.specs.declared.reading.Place.TheVariants as places
+use Rattle.edit_fields.specs.declared.reading.SymbolPlace.{SymbolPlace}
+use Rattle.edit_fields.specs.declared.reading.SymbolPlace.TheVariants as places
 use Rattle.edit_fields.specs.declared.reading.Reading.{Reading}
 use Rattle.edit_fields.specs.Symbol.{symbol_v}
 use Rattle.edit_fields.specs.Shape.{behind, digits, empty, is_whole}
@@ -20,11 +20,11 @@ use Rattle.edit_fields.proofs.ReadingLemmas.{none_on}
 use Rattle.edit_fields.proofs.MaskLemmas.{goes_on_symbol, not_counting, step_symbol}
 
 -- what was read, at a place
-abbrev pub at : Shape → Extent → Place → Reading
+abbrev pub at : Shape → Extent → SymbolPlace → Reading
 at shape extent place = record { shape = shape; extent = extent; place = place }
 
 -- the count that is open at a place
-abbrev count_of : Place → Option ℕ
+abbrev count_of : SymbolPlace → Option ℕ
 count_of places.Open = None
 count_of (places.Behind position) = None
 count_of (places.Count position count) = Some count
@@ -74,7 +74,7 @@ pub not_left : (byte : ℕ) → is_parenthesis byte ≡ false → (byte == left_
 not_left byte plain = (or_parts (byte == left_parenthesis) (byte == right_parenthesis) plain).0
 
 -- a symbol that may come is taken at any place
-pub takes : (m byte : ℕ) (shape next : Shape) (extent : Extent) (place : Place) → is_counting place ≡ false → Capital byte → behind byte shape ≡ Some next → step m (to_ascii_uppercase byte) (at shape extent place) ≡ Ok (at next (longer byte extent) (if byte == symbol_v then places.Open else places.Behind m))
+pub takes : (m byte : ℕ) (shape next : Shape) (extent : Extent) (place : SymbolPlace) → is_counting place ≡ false → Capital byte → behind byte shape ≡ Some next → step m (to_ascii_uppercase byte) (at shape extent place) ≡ Ok (at next (longer byte extent) (if byte == symbol_v then places.Open else places.Behind m))
 unfolding step
 takes m byte shape next extent place counts capital e =
     ap (λ b. step_by place m b (at shape extent place)) capital.upper
@@ -82,7 +82,7 @@ takes m byte shape next extent place counts capital e =
     ∙ ap (λ may. placed (symbol_fault m byte) (if byte == symbol_v then places.Open else places.Behind m) (added_by byte may (at shape extent place))) e
 
 -- and the rest is read behind it
-reads_symbol : (m byte : ℕ) (shape next : Shape) (extent : Extent) (place : Place) (rest : List ℕ) → is_counting place ≡ false → Capital byte → behind byte shape ≡ Some next → Reads (m + 1) (at next (longer byte extent) (if byte == symbol_v then places.Open else places.Behind (m + 1))) rest → Reads m (at shape extent place) (byte ∷ rest)
+reads_symbol : (m byte : ℕ) (shape next : Shape) (extent : Extent) (place : SymbolPlace) (rest : List ℕ) → is_counting place ≡ false → Capital byte → behind byte shape ≡ Some next → Reads (m + 1) (at next (longer byte extent) (if byte == symbol_v then places.Open else places.Behind (m + 1))) rest → Reads m (at shape extent place) (byte ∷ rest)
 unfolding fault_from
 reads_symbol m byte shape next extent place rest counts capital e reads = record {
   fault = ap (λ made. fault_from (m + 1) made rest) (takes (m + 1) byte shape next extent place counts capital e) ∙ reads.fault;
@@ -100,7 +100,7 @@ added_through k last reading after None Goal e h go = absurd (none_some (repeate
 added_through k last reading after (Some next) Goal e h go = go next e h
 
 -- a run is read symbol by symbol
-repeat_same : (k m last : ℕ) (shape : Shape) (extent : Extent) (place other : Place) (after : Reading) (more : List ℕ) → is_counting other ≡ false → Capital last → extent.last ≡ last → repeated_on k last (Some (at shape extent place)) ≡ Some after → ((n : ℕ) (place : Place) → is_counting place ≡ false → after.extent.last ≡ last → Reads n (at after.shape after.extent place) more) → Reads m (at shape extent other) (replicate k last ++ more)
+repeat_same : (k m last : ℕ) (shape : Shape) (extent : Extent) (place other : SymbolPlace) (after : Reading) (more : List ℕ) → is_counting other ≡ false → Capital last → extent.last ≡ last → repeated_on k last (Some (at shape extent place)) ≡ Some after → ((n : ℕ) (place : SymbolPlace) → is_counting place ≡ false → after.extent.last ≡ last → Reads n (at after.shape after.extent place) more) → Reads m (at shape extent other) (replicate k last ++ more)
 repeat_same zero m last shape extent place other after more counts capital is_last h go =
     let same : at shape extent place ≡ after = same_reading (at shape extent place) after h in
     subst (λ (r : Reading). Reads m (at r.shape r.extent other) more) (sym same)
@@ -162,7 +162,7 @@ end_moves false true true false x y z u v w h = absurd cc
 end_moves false true false good x y z u v w h = absurd cc
 end_moves false false few good x y z u v w h = absurd cc
 
-pub same_end : (last m : ℕ) (shape : Shape) (extent : Extent) (place other : Place) → is_counting other ≡ false → end_fault last (at shape extent place) ≡ None → end_fault m (at shape extent other) ≡ None
+pub same_end : (last m : ℕ) (shape : Shape) (extent : Extent) (place other : SymbolPlace) → is_counting other ≡ false → end_fault last (at shape extent place) ≡ None → end_fault m (at shape extent other) ≡ None
 unfolding end_fault
 same_end last m shape extent place other counts h =
     subst (λ counting. (if counting || not (is_whole shape) then Some (faults.Order m) else (if not (nat_le (digits shape) 18) then Some (faults.TooManyDigits m) else (if is_short extent && extent.edits && ends_well extent then None else Some (faults.Order m)))) ≡ None) (sym counts)
@@ -170,22 +170,22 @@ same_end last m shape extent place other counts h =
 
 -- ---- all bytes
 
-no_count : (place : Place) → is_counting place ≡ false → count_of place ≡ None
+no_count : (place : SymbolPlace) → is_counting place ≡ false → count_of place ≡ None
 no_count places.Open counts = refl
 no_count (places.Behind position) counts = refl
 no_count (places.Count position count) counts = absurd cc
 
 -- behind a symbol the last one is that
-behind_symbol : (n byte : ℕ) (extent : Extent) (place : Place) (rest : List ℕ) → is_counting place ≡ false → written_from (count_of place) (longer byte extent).last rest ≡ written_from None byte rest
+behind_symbol : (n byte : ℕ) (extent : Extent) (place : SymbolPlace) (rest : List ℕ) → is_counting place ≡ false → written_from (count_of place) (longer byte extent).last rest ≡ written_from None byte rest
 behind_symbol n byte extent place rest counts =
     ap (λ c. written_from c (longer byte extent).last rest) (no_count place counts)
     ∙ ap (λ l. written_from None l rest) (longer_last byte extent)
 
-reads_end : (last m : ℕ) (shape : Shape) (extent : Extent) (place other : Place) → is_counting other ≡ false → end_fault last (at shape extent place) ≡ None → Reads m (at shape extent other) []
+reads_end : (last m : ℕ) (shape : Shape) (extent : Extent) (place other : SymbolPlace) → is_counting other ≡ false → end_fault last (at shape extent place) ≡ None → Reads m (at shape extent other) []
 unfolding fault_from
 reads_end last m shape extent place other counts h = record { fault = same_end last (last_position m) shape extent place other counts h; plain = refl }
 
-reads_on : (text : List ℕ) (n m : ℕ) (shape : Shape) (extent : Extent) (place other : Place) → is_counting other ≡ false → Capital extent.last → fault_from n (Ok (at shape extent place)) text ≡ None → Reads m (at shape extent other) (written_from (count_of place) extent.last text)
+reads_on : (text : List ℕ) (n m : ℕ) (shape : Shape) (extent : Extent) (place other : SymbolPlace) → is_counting other ≡ false → Capital extent.last → fault_from n (Ok (at shape extent place)) text ≡ None → Reads m (at shape extent other) (written_from (count_of place) extent.last text)
 unfolding fault_from written_from
 reads_on [] n m shape extent place other counts capital h = reads_end (last_position n) m shape extent place other counts h
 reads_on (byte ∷ rest) n m shape extent places.Open other counts capital h =

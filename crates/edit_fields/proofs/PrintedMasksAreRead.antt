@@ -10,8 +10,8 @@ use Rattle.edit_fields.specs.declared.shape.Stage.{Stage}
 use Rattle.edit_fields.specs.declared.shape.Stage.TheVariants as stages
 use Rattle.edit_fields.specs.declared.shape.Shape.{Shape}
 use Rattle.edit_fields.specs.declared.extent.Extent.{Extent}
-use Rattle.edit_fields.specs.declared.reading.Place.{Place}
-use Rattle.edit_fields.specs.declared.reading.Place.TheVariants as places
+use Rattle.edit_fields.specs.declared.reading.SymbolPlace.{SymbolPlace}
+use Rattle.edit_fields.specs.declared.reading.SymbolPlace.TheVariants as places
 use Rattle.edit_fields.specs.declared.reading.Reading.{Reading}
 use Rattle.edit_fields.specs.Symbol.{symbol_v}
 use Rattle.edit_fields.specs.Shape.{behind, body_by, digits, empty, is_whole, tally}
@@ -136,7 +136,7 @@ close_step n position k shape extent after some e =
     ∙ ap (λ o. placed (faults.Order position) places.Open o) e
 
 -- where a run is repeated, its place doesn't matter
-moved_place : (k symbol : ℕ) (shape : Shape) (extent : Extent) (place other : Place) (after : Reading) → repeated_on k symbol (Some (at shape extent place)) ≡ Some after → repeated_on k symbol (Some (at shape extent other)) ≡ Some (at after.shape after.extent other)
+moved_place : (k symbol : ℕ) (shape : Shape) (extent : Extent) (place other : SymbolPlace) (after : Reading) → repeated_on k symbol (Some (at shape extent place)) ≡ Some after → repeated_on k symbol (Some (at shape extent other)) ≡ Some (at after.shape after.extent other)
 moved_place zero symbol shape extent place other after e = let same : at shape extent place ≡ after = cc in ap (λ (r : Reading). Some (at r.shape r.extent other)) same
 moved_place (suc k) symbol shape extent place other after e =
     added_through k symbol (at shape extent place) after (behind symbol shape) (repeated_on (suc k) symbol (Some (at shape extent other)) ≡ Some (at after.shape after.extent other)) refl e
@@ -152,7 +152,7 @@ repeated_more (suc k) symbol reading after next e f =
     (λ on g h. ap (λ may. repeated_on (suc k) symbol (added_by symbol may reading)) g ∙ repeated_more k symbol (at on (longer symbol reading.extent) reading.place) after next h f)
 
 -- a run that is printed is read as the run
-read_one : (n symbol : ℕ) (shape : Shape) (extent : Extent) (place : Place) (after : Reading) (more : List ℕ) → is_counting place ≡ false → Capital symbol → repeated_on 1 symbol (Some (at shape extent place)) ≡ Some after → ((m : ℕ) (place : Place) → is_counting place ≡ false → fault_from m (Ok (at after.shape after.extent place)) more ≡ None) → fault_from n (Ok (at shape extent place)) (symbol ∷ more) ≡ None
+read_one : (n symbol : ℕ) (shape : Shape) (extent : Extent) (place : SymbolPlace) (after : Reading) (more : List ℕ) → is_counting place ≡ false → Capital symbol → repeated_on 1 symbol (Some (at shape extent place)) ≡ Some after → ((m : ℕ) (place : SymbolPlace) → is_counting place ≡ false → fault_from m (Ok (at after.shape after.extent place)) more ≡ None) → fault_from n (Ok (at shape extent place)) (symbol ∷ more) ≡ None
 unfolding fault_from
 read_one n symbol shape extent place after more counts capital e go =
     added_through 0 symbol (at shape extent place) after (behind symbol shape) (fault_from n (Ok (at shape extent place)) (symbol ∷ more) ≡ None) refl e
@@ -162,7 +162,7 @@ read_one n symbol shape extent place after more counts capital e go =
     ∙ ap (λ (r : Reading). fault_from (n + 1) (Ok (at r.shape r.extent (if symbol == symbol_v then places.Open else places.Behind (n + 1)))) more) same
     ∙ go (n + 1) (if symbol == symbol_v then places.Open else places.Behind (n + 1)) (not_counting (symbol == symbol_v) (n + 1)))
 
-read_more : (n k symbol : ℕ) (shape : Shape) (extent : Extent) (place : Place) (after : Reading) (more : List ℕ) → is_counting place ≡ false → Capital symbol → suc (suc k) < 200 → repeated_on (suc (suc k)) symbol (Some (at shape extent place)) ≡ Some after → ((m : ℕ) (place : Place) → is_counting place ≡ false → fault_from m (Ok (at after.shape after.extent place)) more ≡ None) → fault_from n (Ok (at shape extent place)) (symbol ∷ left_parenthesis ∷ count_text (suc (suc k)) (right_parenthesis ∷ more)) ≡ None
+read_more : (n k symbol : ℕ) (shape : Shape) (extent : Extent) (place : SymbolPlace) (after : Reading) (more : List ℕ) → is_counting place ≡ false → Capital symbol → suc (suc k) < 200 → repeated_on (suc (suc k)) symbol (Some (at shape extent place)) ≡ Some after → ((m : ℕ) (place : SymbolPlace) → is_counting place ≡ false → fault_from m (Ok (at after.shape after.extent place)) more ≡ None) → fault_from n (Ok (at shape extent place)) (symbol ∷ left_parenthesis ∷ count_text (suc (suc k)) (right_parenthesis ∷ more)) ≡ None
 unfolding fault_from step
 read_more n k symbol shape extent place after more counts capital short e go =
     added_through (suc k) symbol (at shape extent place) after (behind symbol shape) (fault_from n (Ok (at shape extent place)) (symbol ∷ left_parenthesis ∷ count_text (suc (suc k)) (right_parenthesis ∷ more)) ≡ None) refl e
@@ -180,7 +180,7 @@ read_more n k symbol shape extent place after more counts capital short e go =
     (λ (m : ℕ). ap (λ made. fault_from (m + 1) made more) (close_step (m + 1) (n + 1) (suc (suc k)) next (longer symbol extent) (at after.shape after.extent (places.Count (n + 1) (suc (suc k)))) (omega arith) (run (n + 1)))
     ∙ go (m + 1) places.Open refl)))
 
-read_run : (n k symbol : ℕ) (shape : Shape) (extent : Extent) (place : Place) (after : Reading) (more : List ℕ) → is_counting place ≡ false → Capital symbol → suc k < 200 → repeated_on (suc k) symbol (Some (at shape extent place)) ≡ Some after → ((m : ℕ) (place : Place) → is_counting place ≡ false → fault_from m (Ok (at after.shape after.extent place)) more ≡ None) → fault_from n (Ok (at shape extent place)) (run_text symbol (suc k) more) ≡ None
+read_run : (n k symbol : ℕ) (shape : Shape) (extent : Extent) (place : SymbolPlace) (after : Reading) (more : List ℕ) → is_counting place ≡ false → Capital symbol → suc k < 200 → repeated_on (suc k) symbol (Some (at shape extent place)) ≡ Some after → ((m : ℕ) (place : SymbolPlace) → is_counting place ≡ false → fault_from m (Ok (at after.shape after.extent place)) more ≡ None) → fault_from n (Ok (at shape extent place)) (run_text symbol (suc k) more) ≡ None
 read_run n zero symbol shape extent place after more counts capital short e go = read_one n symbol shape extent place after more counts capital e go
 read_run n (suc k) symbol shape extent place after more counts capital short e go =
     ap (λ l. fault_from n (Ok (at shape extent place)) l) (else_taken (suc (suc k) == 1) (symbol ∷ more) (symbol ∷ left_parenthesis ∷ count_text (suc (suc k)) (right_parenthesis ∷ more)) (ne_eqb (suc (suc k)) 1 (λ z. omega (arith, z))))
@@ -254,7 +254,7 @@ longer_size byte extent = either_way (λ (e : Extent). e.size ≡ tally extent.s
 one_less : (size more : ℕ) → tally size 1 + more ≤ 160 → size + suc more ≤ 160
 one_less size more h = grind arith
 
-pub mask_short : (text : List ℕ) (n : ℕ) (shape : Shape) (extent : Extent) (place : Place) → is_counting place ≡ false → map to_ascii_uppercase text ≡ text → is_written_out text ≡ true → fault_from n (Ok (at shape extent place)) text ≡ None → extent.size + length text ≤ 160
+pub mask_short : (text : List ℕ) (n : ℕ) (shape : Shape) (extent : Extent) (place : SymbolPlace) → is_counting place ≡ false → map to_ascii_uppercase text ≡ text → is_written_out text ≡ true → fault_from n (Ok (at shape extent place)) text ≡ None → extent.size + length text ≤ 160
 unfolding fault_from
 mask_short [] n shape extent place counts upper plain h = omega (arith, end_short (last_position n) (at shape extent place) h)
 mask_short (byte ∷ rest) n shape extent place counts upper plain h =
@@ -266,11 +266,11 @@ mask_short (byte ∷ rest) n shape extent place counts upper plain h =
 
 -- ---- all runs are read
 
-read_runs : (rest : List ℕ) (n m k symbol : ℕ) (shape : Shape) (extent : Extent) (place : Place) (after : Reading) (other : Place) → is_counting place ≡ false → is_counting other ≡ false → Capital symbol → map to_ascii_uppercase rest ≡ rest → is_written_out rest ≡ true → suc k + length rest < 200 → repeated_on (suc k) symbol (Some (at shape extent place)) ≡ Some after → fault_from m (Ok (at after.shape after.extent other)) rest ≡ None → fault_from n (Ok (at shape extent place)) (printed_from symbol (suc k) rest) ≡ None
+read_runs : (rest : List ℕ) (n m k symbol : ℕ) (shape : Shape) (extent : Extent) (place : SymbolPlace) (after : Reading) (other : SymbolPlace) → is_counting place ≡ false → is_counting other ≡ false → Capital symbol → map to_ascii_uppercase rest ≡ rest → is_written_out rest ≡ true → suc k + length rest < 200 → repeated_on (suc k) symbol (Some (at shape extent place)) ≡ Some after → fault_from m (Ok (at after.shape after.extent other)) rest ≡ None → fault_from n (Ok (at shape extent place)) (printed_from symbol (suc k) rest) ≡ None
 unfolding fault_from printed_from
 read_runs [] n m k symbol shape extent place after other counts open_other capital upper plain short e h =
     read_run n k symbol shape extent place after [] counts capital (omega arith) e
-    (λ (j : ℕ) (p : Place) open_place. same_end (last_position m) (last_position j) after.shape after.extent other p open_place h)
+    (λ (j : ℕ) (p : SymbolPlace) open_place. same_end (last_position m) (last_position j) after.shape after.extent other p open_place h)
 read_runs (byte ∷ rest) n m k symbol shape extent place after other counts open_other capital upper plain short e h =
     let parts = and_parts (not (is_parenthesis byte)) (is_written_out rest) plain in
     let no_parenthesis : is_parenthesis byte ≡ false = not-true (is_parenthesis byte) parts.0 in
@@ -285,7 +285,7 @@ read_runs (byte ∷ rest) n m k symbol shape extent place after other counts ope
     (repeated_more (suc k) symbol (at shape extent place) after on.shape e (ap (λ b. behind b after.shape) is ∙ on.comes))
     (ap (λ b. fault_from (m + 1) (Ok (at on.shape (longer b after.extent) on.place)) rest) is ∙ on.fault))
     (λ _. read_run n k symbol shape extent place after (printed_from byte 1 rest) counts capital (omega arith) e
-    (λ (j : ℕ) (p : Place) open_place.
+    (λ (j : ℕ) (p : SymbolPlace) open_place.
     read_runs rest j (m + 1) 0 byte after.shape after.extent p (at on.shape (longer byte after.extent) p) on.place open_place on.counts
     (record { upper = capital_first byte rest upper; plain = no_parenthesis }) (capital_rest byte rest upper) parts.1 (omega arith)
     (ap (λ may. added_by byte may (at after.shape after.extent p)) on.comes) on.fault))

@@ -4,8 +4,8 @@ use Rattle.std.proofs.lemmas.Bool.{and_parts, cases_Bool, eq-eqb, eqb-true, ne_e
 use Rattle.std.specs.Char.{to_ascii_uppercase}
 use Rattle.edit_fields.specs.declared.shape.Shape.{Shape}
 use Rattle.edit_fields.specs.declared.extent.Extent.{Extent}
-use Rattle.edit_fields.specs.declared.reading.Place.{Place}
-use Rattle.edit_fields.specs.declared.reading.Place.TheVariants as places
+use Rattle.edit_fields.specs.declared.reading.SymbolPlace.{SymbolPlace}
+use Rattle.edit_fields.specs.declared.reading.SymbolPlace.TheVariants as places
 use Rattle.edit_fields.specs.declared.reading.Reading.{Reading}
 use Rattle.edit_fields.specs.Shape.{behind, digits, empty, is_whole, tally}
 use Rattle.edit_fields.specs.Extent.{ends_well, is_short, longer, no_extent, run_size}
@@ -71,7 +71,7 @@ other_run byte extent e = ap (λ (x : Extent). x.run) (else_taken (extent.last =
 
 -- ---- all runs
 
-short_runs : (rest : List ℕ) (n k symbol : ℕ) (shape : Shape) (extent : Extent) (place : Place) → is_counting place ≡ false → map to_ascii_uppercase rest ≡ rest → is_written_out rest ≡ true → extent.last ≡ symbol → extent.run ≡ suc k → suc k + length rest < 200 → fault_from n (Ok (at shape extent place)) rest ≡ None → extent.printed + length (printed_from symbol (suc k) rest) ≤ 50
+short_runs : (rest : List ℕ) (n k symbol : ℕ) (shape : Shape) (extent : Extent) (place : SymbolPlace) → is_counting place ≡ false → map to_ascii_uppercase rest ≡ rest → is_written_out rest ≡ true → extent.last ≡ symbol → extent.run ≡ suc k → suc k + length rest < 200 → fault_from n (Ok (at shape extent place)) rest ≡ None → extent.printed + length (printed_from symbol (suc k) rest) ≤ 50
 unfolding fault_from printed_from
 short_runs [] n k symbol shape extent place counts upper plain is_last is_run short h =
     let ends = end_printed (last_position n) (at shape extent place) h in

@@ -100,11 +100,15 @@ shown_byte field symbol behind =
     if symbol == symbol_b then space else symbol
 
 -- blank, hidden left of the first shown place in the string, or shown
-abbrev pub byte_of : Field → ℕ → Pen → Option ℕ → ℕ
-byte_of field symbol pen next =
+abbrev pub byte_by : Field → ℕ → Pen → Bool → ℕ
+byte_by field symbol pen next =
     if field.blank then blank_byte field symbol else
-    if pen.begun && not pen.shown then hidden_byte field (shows_next field pen next)
+    if pen.begun && not pen.shown then hidden_byte field next
     else shown_byte field symbol pen.shape
+
+-- where this is the next symbol
+abbrev pub byte_of : Field → ℕ → Pen → Option ℕ → ℕ
+byte_of field symbol pen next = byte_by field symbol pen (shows_next field pen next)
 
 -- ---- all bytes
 

@@ -58,3 +58,8 @@ field_of value shape = record {
 abbrev pub digit_of : ℕ → ℕ → ℕ
 digit_of zero number = number % 10
 digit_of (suc right) number = digit_of right (number / 10)
+
+-- so many digits of a number, from the right
+unfoldable pub numerals : ℕ → ℕ → List ℕ
+numerals zero number = []
+numerals (suc count) number = number % 10 ∷ numerals count (number / 10)

@@ -8,6 +8,8 @@ pub mod Reading
 -- What a number shows through a mask.
 pub mod Field
 pub mod Edited
+-- A field with its digits taken apart.
+pub mod Figure
 -- A mask as a program holds it, and its symbols.
 pub mod Symbols
 pub mod Mask

@@ -5,8 +5,8 @@ use Rattle.std.specs.List.{list_all}
 use Rattle.edit_fields.specs.declared.fault.MaskFault.{MaskFault}
 use Rattle.edit_fields.specs.declared.fault.MaskFault.TheVariants as faults
 use Rattle.edit_fields.specs.declared.shape.Shape.{Shape}
-use Rattle.edit_fields.specs.declared.reading.Place.{Place}
-use Rattle.edit_fields.specs.declared.reading.Place.TheVariants as places
+use Rattle.edit_fields.specs.declared.reading.SymbolPlace.{SymbolPlace}
+use Rattle.edit_fields.specs.declared.reading.SymbolPlace.TheVariants as places
 use Rattle.edit_fields.specs.declared.reading.Reading.{Reading}
 use Rattle.edit_fields.specs.Symbol.{is_symbol, symbol_v}
 use Rattle.edit_fields.specs.Shape.{behind, digits, empty, is_whole}
@@ -69,7 +69,7 @@ abbrev pub repeated : ℕ → ℕ → Reading → Option Reading
 repeated count symbol reading = repeated_on count symbol (Some reading)
 
 -- what was read and where the next byte is, or this fault
-abbrev pub placed : MaskFault → Place → Option Reading → Result Reading MaskFault
+abbrev pub placed : MaskFault → SymbolPlace → Option Reading → Result Reading MaskFault
 placed fault place None = Err fault
 placed fault place (Some reading) = Ok (record reading { place = place })
 
@@ -99,7 +99,7 @@ in_count position at count byte reading =
     else Err (fault_of position byte)
 
 -- a byte after what was read, by where it is
-abbrev pub step_by : Place → ℕ → ℕ → Reading → Result Reading MaskFault
+abbrev pub step_by : SymbolPlace → ℕ → ℕ → Reading → Result Reading MaskFault
 step_by places.Open position byte reading = symbol position byte reading
 step_by (places.Behind at) position byte reading =
     if byte == left_parenthesis then Ok (record reading { place = places.Count at 0 })
@@ -113,7 +113,7 @@ step position byte reading = step_by reading.place position byte reading
 -- ---- the end
 
 -- a count isn't ended
-abbrev pub is_counting : Place → Bool
+abbrev pub is_counting : SymbolPlace → Bool
 is_counting (places.Count at count) = true
 is_counting _ = false
 

@@ -1,11 +1,12 @@
 //! What a number shows through a mask.
 
-ghost use Rattle.std.specs.Prelude.{◌≡◌, ◌≤◌, length, slice_get};
+ghost use Rattle.std.specs.Prelude.{◌≡◌, ◌≤◌, length};
 ghost use Rattle.edit_fields.specs.Field.{IsMask};
 ghost use Rattle.edit_fields.specs.Edited as edits;
 ghost use Rattle.edit_fields.specs.Edited.{edited, shown_size};
 
-use crate::field::{Field, digit_of, field_of, moved, shape_of};
+use crate::field::{Field, field_of, moved, shape_of};
+use crate::figure::Figure;
 use crate::shape::{Shape, Stage};
 use crate::symbol::{is_currency_or_sign, is_sign, is_suppressor};
 use cob_num::Dec;
@@ -72,46 +73,19 @@ impl Pen {
     }
 
     // The pen after one more symbol.
-    fn passed(self, field: Field, symbol: u8) -> Pen
-        ensures { result ≡ edits.passed field symbol self }
+    fn passed(self, figure: &Figure, symbol: u8) -> Pen
+        ensures { result ≡ edits.passed figure.now symbol self }
     {
         let shape = moved(self.shape, symbol);
         Pen {
             shape,
-            begun: self.begun || symbol == field.string,
-            shown: self.shown || field.is_shown(symbol, shape),
-        }
-    }
-
-    // Whether the next place is shown.
-    fn shows_next(self, field: Field, next: Option<u8>) -> bool
-        ensures { result ≡ edits.shows_next field self next }
-    {
-        match next {
-            Some(byte) => self.passed(field, byte.to_ascii_uppercase()).shown,
-            None => false,
+            begun: self.begun || symbol == figure.field().string,
+            shown: self.shown || figure.is_shown(symbol, shape),
         }
     }
 }
 
 impl Field {
-    fn digit_at(self, behind: Shape) -> u8
-        ensures digit { result ≡ edits.digit_at self behind }
-        ensures short { result ≤ 9 }
-    {
-        digit_of(self.number, self.digits.saturating_sub(behind.digits()))
-    }
-
-    // The first shown place: a digit that isn't zero, a 9, the period, or the place after V.
-    fn is_shown(self, symbol: u8, behind: Shape) -> bool
-        ensures { result ≡ edits.is_shown self symbol behind }
-    {
-        symbol == b'9'
-            || symbol == b'.'
-            || symbol == b'V'
-            || (has_digit(symbol, behind) && self.digit_at(behind) != 0)
-    }
-
     // The byte of a field of which nothing is shown: a space, or an asterisk, except for the
     // period.
     fn blank_byte(self, symbol: u8) -> u8
@@ -149,15 +123,41 @@ impl Field {
         }
     }
 
-    fn shown_byte(self, symbol: u8, behind: Shape) -> u8
-        ensures { result ≡ edits.shown_byte self symbol behind }
+    // A letter of CR or DB.
+    fn letter_byte(self, letter: u8) -> u8
+        ensures { result ≡ edits.letter_byte self letter }
+    {
+        if self.minus { letter } else { b' ' }
+    }
+}
+
+impl Figure {
+    fn digit_at(&self, behind: Shape) -> u8
+        ensures digit { result ≡ edits.digit_at self.now behind }
+        ensures short { result ≤ 9 }
+    {
+        self.digit(self.field().digits.saturating_sub(behind.digits()))
+    }
+
+    // The first shown place: a digit that isn't zero, a 9, the period, or the place after V.
+    fn is_shown(&self, symbol: u8, behind: Shape) -> bool
+        ensures { result ≡ edits.is_shown self.now symbol behind }
+    {
+        symbol == b'9'
+            || symbol == b'.'
+            || symbol == b'V'
+            || (has_digit(symbol, behind) && self.digit_at(behind) != 0)
+    }
+
+    fn shown_byte(&self, symbol: u8, behind: Shape) -> u8
+        ensures { result ≡ edits.shown_byte self.now symbol behind }
     {
         if has_digit(symbol, behind) {
             b'0' + self.digit_at(behind)
         } else if is_sign(symbol) {
-            sign_byte(self.minus, symbol)
+            sign_byte(self.field().minus, symbol)
         } else if is_tail(behind.stage) {
-            self.letter_byte(symbol)
+            self.field().letter_byte(symbol)
         } else if symbol == b'B' {
             b' '
         } else {
@@ -165,30 +165,18 @@ impl Field {
         }
     }
 
-    // A letter of CR or DB.
-    fn letter_byte(self, letter: u8) -> u8
-        ensures { result ≡ edits.letter_byte self letter }
+    // The byte of a symbol; the next place may be shown.
+    fn byte_of(&self, symbol: u8, pen: Pen, next: bool) -> u8
+        ensures { result ≡ edits.byte_by self.now symbol pen next }
     {
-        if self.minus { letter } else { b' ' }
-    }
-
-    fn byte_of(self, symbol: u8, pen: Pen, next: Option<u8>) -> u8
-        ensures { result ≡ edits.byte_of self symbol pen next }
-    {
-        if self.blank {
-            self.blank_byte(symbol)
+        if self.field().blank {
+            self.field().blank_byte(symbol)
         } else if pen.begun && !pen.shown {
-            self.hidden_byte(pen.shows_next(self, next))
+            self.field().hidden_byte(next)
         } else {
             self.shown_byte(symbol, pen.shape)
         }
     }
-}
-
-fn symbol_at(mask: &[u8], place: usize) -> Option<u8>
-    ensures { result ≡ slice_get mask.now place }
-{
-    mask.get(place).copied()
 }
 
 /// How many bytes a mask shows: a V has none.
@@ -206,21 +194,32 @@ pub fn mask_size(mask: &[u8]) -> usize
     size
 }
 
-fn write(field: Field, mask: &[u8], into: &mut [u8])
+/// Writes the bytes that a field shows.
+pub fn write(field: Field, mask: &[u8], into: &mut [u8])
     requires { length into.old ≡ shown_size mask.now }
     ensures { into.new ≡ edits.written field edits.at_start mask.now }
 {
+    let figure = Figure::of(field);
+    // The byte of a symbol waits for the pen after the next one. Before the first there is as good
+    // as a V, which has no byte.
+    let mut symbol = b'V';
     let mut pen = Pen::at_start();
     let mut at = 0;
     for (place, byte) in mask.iter().enumerate() {
-        let symbol = byte.to_ascii_uppercase();
-        pen = pen.passed(field, symbol);
-        if symbol == b'V' {
+        let waiting = symbol;
+        let behind = pen;
+        symbol = byte.to_ascii_uppercase();
+        pen = behind.passed(&figure, symbol);
+        if waiting == b'V' {
             continue;
         }
-        into[at] = field.byte_of(symbol, pen, symbol_at(mask, place + 1));
+        into[at] = figure.byte_of(waiting, behind, pen.shown);
         at += 1;
     }
+    if symbol == b'V' {
+        return;
+    }
+    into[at] = figure.byte_of(symbol, pen, false);
 }
 
 /// The bytes that a value shows through a mask whose counts are written out; `into` has one byte

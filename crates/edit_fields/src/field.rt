@@ -84,15 +84,3 @@ pub fn field_of(value: Dec, shape: Shape) -> Field
         blank: !shape.nines && number == 0,
     }
 }
-
-/// The digit that has so many digits to the right of it.
-pub fn digit_of(number: u64, right: u16) -> u8
-    ensures digit { result ≡ fields.digit_of right number }
-    ensures short { result ≤ 9 }
-{
-    let mut rest = number;
-    for place in 0..right {
-        rest /= 10;
-    }
-    (rest % 10) as u8
-}

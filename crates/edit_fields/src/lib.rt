@@ -9,21 +9,20 @@
 //! only there (`negatives_are_marked`, `only_negatives_are_marked`), a fault of order is at the
 //! first byte up to which no mask begins (`beginnings_go_on`), and masks with counts mean those
 //! without, also as they are printed (`masks_are_written_out`, `printed_masks_are_read`). Examples
-//! that were worked by hand are tests.
+//! that were worked by hand are tests of `front_end_tests`.
 #![tactic(auto)]
 
 mod edited;
 mod extent;
 mod fault;
 mod field;
+mod figure;
 pub mod laws;
 mod mask;
 mod reading;
 mod shape;
 mod symbol;
 mod symbols;
-#[cfg(test)]
-mod tests;
 
 ghost use Rattle.std.specs.Prelude.{◌≡◌, ◌<◌, ◌^◌, length};
 ghost use Rattle.edit_fields.specs.Reading as readings;
@@ -34,7 +33,7 @@ pub use extent::Extent;
 pub use fault::MaskFault;
 pub use field::{Digits, Field, mask_digits};
 pub use mask::Mask;
-pub use reading::{Place, Reading, is_written_out};
+pub use reading::{Reading, SymbolPlace, is_written_out};
 pub use shape::{Shape, Stage};
 
 /// Why a text, its letters in either case, isn't a mask, or `None` where it is one.

@@ -7,7 +7,8 @@ ghost use Rattle.edit_fields.specs.Field.{IsNumber};
 ghost use Rattle.edit_fields.specs.Edited.{edited, shown_size};
 
 use crate::fault::MaskFault;
-use crate::field::{Digits, mask_digits};
+use crate::field::{Digits, field_of, shape_of};
+use crate::shape::Shape;
 use crate::symbols::{Symbols, written_out};
 use crate::{edited, mask_fault};
 use cob_num::Dec;
@@ -20,6 +21,10 @@ use std::marker::Model;
 #[derive(Clone, Copy)]
 pub struct Mask {
     symbols: Symbols,
+    // What the symbols are together, so that no call has to walk them for it.
+    shape: Shape,
+    // How many bytes they show.
+    size: u8,
 }
 
 impl Model for Mask {
@@ -45,10 +50,22 @@ impl Mask {
         ensures { result ≡ held text.now }
     {
         match mask_fault(text) {
-            None => Ok(Mask {
-                symbols: written_out(text),
-            }),
+            None => Ok(Mask::of(written_out(text))),
             Some(fault) => Err(fault),
+        }
+    }
+
+    // The mask of these symbols.
+    fn of(symbols: Symbols) -> Mask
+        requires { IsHeldMask symbols }
+        ensures { result ≡ symbols }
+    {
+        let shape = shape_of(symbols.as_slice());
+        let size = edited::mask_size(symbols.as_slice()) as u8;
+        Mask {
+            symbols,
+            shape,
+            size,
         }
     }
 
@@ -66,7 +83,10 @@ impl Mask {
         ensures digits { result ≡ fields.digits_of self.now }
         ensures number { IsNumber result.whole result.part }
     {
-        mask_digits(self.as_slice())
+        Digits {
+            whole: self.shape.whole,
+            part: self.shape.part,
+        }
     }
 
     /// How many bytes the mask shows.
@@ -74,7 +94,7 @@ impl Mask {
         ensures size { result ≡ shown_size self.now }
         ensures short { result ≤ 160 }
     {
-        edited::mask_size(self.as_slice()) as u32
+        u32::from(self.size)
     }
 
     /// The bytes that a value shows through the mask.
@@ -82,7 +102,7 @@ impl Mask {
         requires { length into.old ≡ shown_size self.now }
         ensures { into.new ≡ edited self.now value }
     {
-        edited::edit(self.as_slice(), value, into)
+        edited::write(field_of(value, self.shape), self.as_slice(), into)
     }
 }
 

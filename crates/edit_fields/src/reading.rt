@@ -10,7 +10,7 @@ use crate::symbol::is_symbol;
 
 /// How far the text has come in a run of a symbol.
 #[derive(Clone, Copy, Debug, PartialEq, Eq)]
-pub enum Place {
+pub enum SymbolPlace {
     /// Where no count may come.
     Open,
     /// After a symbol at this byte, which may have a count.
@@ -24,7 +24,7 @@ pub enum Place {
 pub struct Reading {
     pub shape: Shape,
     pub extent: Extent,
-    pub place: Place,
+    pub place: SymbolPlace,
 }
 
 fn is_parenthesis(byte: u8) -> bool
@@ -86,7 +86,7 @@ impl Reading {
         Reading {
             shape: Shape::empty(),
             extent: Extent::none(),
-            place: Place::Open,
+            place: SymbolPlace::Open,
         }
     }
 
@@ -96,14 +96,14 @@ impl Reading {
         ensures { result ≡ readings.step position byte self }
     {
         match self.place {
-            Place::Open => self.symbol(position, byte),
-            Place::Behind(at) if byte == b'(' => Ok(self.at(Place::Count(at, 0))),
-            Place::Behind(_) => self.symbol(position, byte),
-            Place::Count(at, count) => self.in_count(position, at, count, byte),
+            SymbolPlace::Open => self.symbol(position, byte),
+            SymbolPlace::Behind(at) if byte == b'(' => Ok(self.at(SymbolPlace::Count(at, 0))),
+            SymbolPlace::Behind(_) => self.symbol(position, byte),
+            SymbolPlace::Count(at, count) => self.in_count(position, at, count, byte),
         }
     }
 
-    fn at(self, place: Place) -> Reading
+    fn at(self, place: SymbolPlace) -> Reading
         ensures { result ≡ record self { place = place } }
     {
         Reading { place, ..self }
@@ -142,9 +142,9 @@ impl Reading {
             return Err(symbol_fault(position, byte));
         };
         if byte == b'V' {
-            Ok(reading.at(Place::Open))
+            Ok(reading.at(SymbolPlace::Open))
         } else {
-            Ok(reading.at(Place::Behind(position)))
+            Ok(reading.at(SymbolPlace::Behind(position)))
         }
     }
 
@@ -152,7 +152,7 @@ impl Reading {
         ensures { result ≡ readings.in_count position at count byte self }
     {
         if is_digit(byte) {
-            return Ok(self.at(Place::Count(at, counted(count, byte - b'0'))));
+            return Ok(self.at(SymbolPlace::Count(at, counted(count, byte - b'0'))));
         }
         if byte == b')' {
             return self.closed(position, at, count);
@@ -167,7 +167,7 @@ impl Reading {
             return Err(MaskFault::Order(position));
         }
         match self.repeated(count - 1, self.extent.last) {
-            Some(reading) => Ok(reading.at(Place::Open)),
+            Some(reading) => Ok(reading.at(SymbolPlace::Open)),
             None => Err(MaskFault::Order(at)),
         }
     }
@@ -176,7 +176,7 @@ impl Reading {
         ensures { result ≡ readings.is_counting self.place }
     {
         match self.place {
-            Place::Count(_, _) => true,
+            SymbolPlace::Count(_, _) => true,
             _ => false,
         }
     }

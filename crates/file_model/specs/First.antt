@@ -1,5 +1,5 @@
 -- The first file of a name, as the code finds it.
-use Rattle.std.specs.Prelude.{ℕ, ◌≡◌, ◌<◌, List, [], ◌++◌, length, drop, Option, Some, None, slice_get, slice_set}
+use Rattle.std.specs.Prelude.{ℕ, ◌≡◌, ◌<◌, List, [], ◌++◌, length, drop, Some, None, slice_get, slice_set}
 use Rattle.file_model.specs.declared.device.Got.{Got}
 use Rattle.file_model.specs.declared.device.Got.TheVariants as got
 use Rattle.file_model.specs.declared.mem_file.MemFile.{MemFile}

@@ -9,17 +9,18 @@
 mod address;
 mod calls;
 mod closing;
+mod fault;
 mod finding;
+mod noting;
 mod opening;
 mod reading;
 mod taking;
-mod tried;
 mod watched;
 mod writing;
 
 pub use crate::operations::closing::{close, close_open};
+pub use crate::operations::fault::FileFault;
 pub use crate::operations::opening::open;
 pub use crate::operations::reading::read;
-pub use crate::operations::tried::Tried;
-pub use crate::operations::watched::Watched;
+pub use crate::operations::watched::{Shown, Watched};
 pub use crate::operations::writing::{rewrite, write};

@@ -14,6 +14,10 @@ mod errors;
 #[cfg(test)]
 mod lines;
 #[cfg(test)]
+mod masks;
+#[cfg(test)]
+mod nested;
+#[cfg(test)]
 mod numbers;
 #[cfg(test)]
 mod orders;
@@ -21,6 +25,10 @@ mod orders;
 mod pictures;
 #[cfg(test)]
 mod printing;
+#[cfg(test)]
+mod stored;
+#[cfg(test)]
+mod streams;
 #[cfg(test)]
 mod tokens;
 #[cfg(test)]

@@ -1,7 +1,7 @@
 //! Reads a small grammar, and the parts of one token.
 
 use cob_base::{Boxed, Text, Word};
-use cob_tree::{Digits, Number};
+use cob_tree::{Number, SpelledDigits};
 use cobol_lex::{Token, TokenKind};
 use parser_combinators::example::{Step, read};
 use parser_combinators::{Cursor, NameKind, Note, Position, Unread};
@@ -134,7 +134,7 @@ fn reads_the_small_grammar(rt: HostRuntime) -> Result<(), Fail> {
 fn minus_one_and_a_half(alloc: Global) -> Result<TokenKind, Fail> {
     let number = Number {
         negative: true,
-        digits: Digits::new(text_of(alloc, b"15")?),
+        digits: SpelledDigits::new(text_of(alloc, b"15")?),
         scale: 1,
     };
     Ok(TokenKind::Decimal(Boxed::new(alloc, number)?))

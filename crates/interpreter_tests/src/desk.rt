@@ -4,7 +4,7 @@ ghost use Rattle.std.specs.Prelude.{◌≡◌, ◌<◌, IsTrue, length, vec_len}
 
 use cob_base::{NoMemory, Text, Word};
 use cob_tree::{FileEntry, How};
-use file_model::operations::{Tried, close, close_open, open, read, rewrite, write};
+use file_model::operations::{FileFault, close, close_open, open, read, rewrite, write};
 use file_model::{Bench, Device, FileTable, MemDevice};
 use std::alloc::{AllocError, Global};
 use std::process::Abort;
@@ -63,11 +63,11 @@ fn bench_of(alloc: Global, names: &[&[u8]], failing: u64) -> Result<Bench, Alloc
     Ok(Bench::new(devices))
 }
 
-fn code(tried: Tried) -> u8 {
-    match tried {
-        Tried::Status(status) => status,
-        Tried::Failed => FAILED,
-        Tried::NoMemory => 101,
+fn code(answer: Result<u8, FileFault>) -> u8 {
+    match answer {
+        Ok(status) => status,
+        Err(FileFault::Device) => FAILED,
+        Err(FileFault::NoMemory) => 101,
     }
 }
 

@@ -6,18 +6,18 @@ use Rattle.cob_tree.specs.declared.picture.Picture.{Picture}
 use Rattle.picture_data.specs.declared.fault.PictureFault.{PictureFault}
 use Rattle.picture_data.specs.declared.fault.Flaw.{Flaw}
 use Rattle.picture_data.specs.declared.fault.Flaw.TheVariants as flaws
-use Rattle.picture_data.specs.declared.symbols.Shape.{Shape}
-use Rattle.picture_data.specs.declared.symbols.Shape.TheVariants as shapes
-use Rattle.picture_data.specs.declared.symbols.Symbols.{Symbols}
+use Rattle.picture_data.specs.declared.symbols.PictureShape.{PictureShape}
+use Rattle.picture_data.specs.declared.symbols.PictureShape.TheVariants as shapes
+use Rattle.picture_data.specs.declared.symbols.PictureSymbols.{PictureSymbols}
 use Rattle.picture_data.specs.declared.reading.SymbolPosition.{SymbolPosition}
 use Rattle.picture_data.specs.declared.reading.SymbolPosition.TheVariants as places
-use Rattle.picture_data.specs.declared.reading.Reading.{Reading}
+use Rattle.picture_data.specs.declared.reading.PictureReading.{PictureReading}
 use Rattle.picture_data.specs.Fault.{fault_at}
 use Rattle.picture_data.specs.Edited.{edited_picture, is_edited}
 use Rattle.picture_data.specs.Symbols.{symbol_s, symbol_v, symbol_9, symbol_a, symbol_x, behind, added, too_many, picture}
 
 -- the picture before the first byte
-abbrev pub start : Reading
+abbrev pub start : PictureReading
 start = record {
   symbols = record { shape = shapes.Start; whole = 0; part = 0 };
   place = places.Open;
@@ -31,12 +31,12 @@ flaw_of byte =
     then flaws.Order else flaws.Symbol
 
 -- the symbols so far and where the next byte is, or the flaw
-abbrev pub placed : SymbolPosition → Result Symbols Flaw → Result Reading Flaw
+abbrev pub placed : SymbolPosition → Result PictureSymbols Flaw → Result PictureReading Flaw
 placed place (Ok symbols) = Ok (record { symbols = symbols; place = place })
 placed place (Err flaw) = Err flaw
 
 -- one symbol more, by what it makes of those before it
-abbrev pub symbol_by : ℕ → Option Shape → Symbols → Result Reading Flaw
+abbrev pub symbol_by : ℕ → Option PictureShape → PictureSymbols → Result PictureReading Flaw
 symbol_by byte None symbols = Err (flaw_of byte)
 symbol_by byte (Some shape) symbols =
     if byte == symbol_s || byte == symbol_v
@@ -44,16 +44,16 @@ symbol_by byte (Some shape) symbols =
     else placed places.Behind (added 1 (record symbols { shape = shape }))
 
 -- the picture so far with one more symbol
-abbrev pub symbol : ℕ → Reading → Result Reading Flaw
+abbrev pub symbol : ℕ → PictureReading → Result PictureReading Flaw
 symbol byte reading = symbol_by byte (behind byte reading.symbols.shape) reading.symbols
 
 -- the picture so far, where so many more of the last symbol are allowed, or the flaw
-abbrev pub kept : SymbolPosition → Symbols → Result Symbols Flaw → Result Reading Flaw
+abbrev pub kept : SymbolPosition → PictureSymbols → Result PictureSymbols Flaw → Result PictureReading Flaw
 kept place symbols (Ok more) = Ok (record { symbols = symbols; place = place })
 kept place symbols (Err flaw) = Err flaw
 
 -- one digit more of a count that is not too high
-abbrev pub digit : ℕ → ℕ → Reading → Result Reading Flaw
+abbrev pub digit : ℕ → ℕ → PictureReading → Result PictureReading Flaw
 digit count d reading =
     if nat_le (count * 10 + d) 65535
     then kept (places.Count (count * 10 + d)) reading.symbols
@@ -61,18 +61,18 @@ digit count d reading =
     else Err (too_many reading.symbols.shape)
 
 -- the picture so far with a count ended, which is at least 1
-abbrev pub closed : ℕ → Reading → Result Reading Flaw
+abbrev pub closed : ℕ → PictureReading → Result PictureReading Flaw
 closed count reading =
     if count == 0 then Err flaws.Order else placed places.Open (added (count - 1) reading.symbols)
 
 -- a byte within a count: a digit, or its end
-abbrev pub in_count : ℕ → ℕ → Reading → Result Reading Flaw
+abbrev pub in_count : ℕ → ℕ → PictureReading → Result PictureReading Flaw
 in_count count byte reading =
     if nat_le digit_0 byte && nat_le byte digit_9 then digit count (byte - digit_0) reading else
     if byte == right_parenthesis then closed count reading else Err (flaw_of byte)
 
 -- the picture after one byte more, by where it is
-abbrev pub step_by : SymbolPosition → ℕ → Reading → Result Reading Flaw
+abbrev pub step_by : SymbolPosition → ℕ → PictureReading → Result PictureReading Flaw
 step_by places.Open byte reading = symbol byte reading
 step_by places.Behind byte reading =
     if byte == left_parenthesis then Ok (record reading { place = places.Count 0 })
@@ -80,16 +80,16 @@ step_by places.Behind byte reading =
 step_by (places.Count count) byte reading = in_count count byte reading
 
 -- the picture after one byte more, its letter in capitals
-unfoldable pub step : ℕ → Reading → Result Reading Flaw
+unfoldable pub step : ℕ → PictureReading → Result PictureReading Flaw
 step byte reading = step_by reading.place byte reading
 
 -- the picture, unless a count isn't ended
-abbrev pub finish_by : SymbolPosition → Symbols → Result Picture Flaw
+abbrev pub finish_by : SymbolPosition → PictureSymbols → Result Picture Flaw
 finish_by (places.Count count) symbols = Err flaws.Order
 finish_by _ symbols = picture symbols
 
 -- the picture, where no more bytes come
-unfoldable pub finish : Reading → Result Picture Flaw
+unfoldable pub finish : PictureReading → Result Picture Flaw
 finish reading = finish_by reading.place reading.symbols
 
 -- the last byte's position, or 1 where there is none
@@ -103,7 +103,7 @@ ended count (Ok picture) = Ok picture
 ended count (Err flaw) = Err (fault_at flaw (last_position count))
 
 -- reads on after so many bytes
-unfoldable pub read_from : ℕ → Result Reading Flaw → List ℕ → Result Picture PictureFault
+unfoldable pub read_from : ℕ → Result PictureReading Flaw → List ℕ → Result Picture PictureFault
 read_from count (Err flaw) rest = Err (fault_at flaw count)
 read_from count (Ok reading) [] = ended count (finish reading)
 read_from count (Ok reading) (byte ∷ rest) =

@@ -4,9 +4,9 @@ use Rattle.cob_tree.specs.declared.picture.Picture.{Picture}
 use Rattle.cob_tree.specs.declared.picture.Picture.TheVariants as pictures
 use Rattle.picture_data.specs.declared.fault.Flaw.{Flaw}
 use Rattle.picture_data.specs.declared.fault.Flaw.TheVariants as flaws
-use Rattle.picture_data.specs.declared.symbols.Shape.{Shape}
-use Rattle.picture_data.specs.declared.symbols.Shape.TheVariants as shapes
-use Rattle.picture_data.specs.declared.symbols.Symbols.{Symbols}
+use Rattle.picture_data.specs.declared.symbols.PictureShape.{PictureShape}
+use Rattle.picture_data.specs.declared.symbols.PictureShape.TheVariants as shapes
+use Rattle.picture_data.specs.declared.symbols.PictureSymbols.{PictureSymbols}
 
 -- ---- the symbols, in capitals
 
@@ -33,25 +33,25 @@ symbol_x = 88
 -- ---- what a symbol makes of those before it
 
 -- an S is the first
-abbrev pub behind_sign : Shape → Option Shape
+abbrev pub behind_sign : PictureShape → Option PictureShape
 behind_sign shapes.Start = Some shapes.Signed
 behind_sign _ = None
 
 -- one V, in a number
-abbrev pub behind_point : Shape → Option Shape
+abbrev pub behind_point : PictureShape → Option PictureShape
 behind_point shapes.Start = Some (shapes.Point false)
 behind_point shapes.Nines = Some (shapes.Point false)
 behind_point shapes.Signed = Some (shapes.Point true)
 behind_point _ = None
 
 -- a nine may be anywhere
-abbrev pub behind_nine : Shape → Shape
+abbrev pub behind_nine : PictureShape → PictureShape
 behind_nine shapes.Start = shapes.Nines
 behind_nine shapes.Letters = shapes.Any
 behind_nine shape = shape
 
 -- what a picture is after one more A; it may be in no number
-abbrev pub behind_letter : Shape → Option Shape
+abbrev pub behind_letter : PictureShape → Option PictureShape
 behind_letter shapes.Start = Some shapes.Letters
 behind_letter shapes.Letters = Some shapes.Letters
 behind_letter shapes.Nines = Some shapes.Any
@@ -60,13 +60,13 @@ behind_letter _ = None
 
 -- what a picture is after one more X, which may be in no number, and makes of letters any
 -- characters
-abbrev pub behind_any : Shape → Option Shape
+abbrev pub behind_any : PictureShape → Option PictureShape
 behind_any shapes.Signed = None
 behind_any (shapes.Point signed) = None
 behind_any _ = Some shapes.Any
 
 -- what a symbol makes of those before it, if it may follow them
-abbrev pub behind : ℕ → Shape → Option Shape
+abbrev pub behind : ℕ → PictureShape → Option PictureShape
 behind symbol shape =
     if symbol == symbol_s then behind_sign shape else
     if symbol == symbol_v then behind_point shape else
@@ -77,26 +77,26 @@ behind symbol shape =
 -- ---- how many there are
 
 -- the symbols are a number with a sign or a decimal point
-abbrev pub is_number : Shape → Bool
+abbrev pub is_number : PictureShape → Bool
 is_number shapes.Signed = true
 is_number (shapes.Point signed) = true
 is_number _ = false
 
 -- how many symbols there may be: 18 digits of a number, 65,535 characters
-abbrev pub most : Shape → ℕ
+abbrev pub most : PictureShape → ℕ
 most shape = if is_number shape then 18 else 65535
 
 -- the flaw of more than there may be
-abbrev pub too_many : Shape → Flaw
+abbrev pub too_many : PictureShape → Flaw
 too_many shape = if is_number shape then flaws.Digits else flaws.Order
 
 -- the symbols with so many more before or after the decimal point
-abbrev pub counted : ℕ → Symbols → Shape → Symbols
+abbrev pub counted : ℕ → PictureSymbols → PictureShape → PictureSymbols
 counted count symbols (shapes.Point signed) = record symbols { part = symbols.part + count }
 counted count symbols _ = record symbols { whole = symbols.whole + count }
 
 -- the symbols with so many more of the last one, or the flaw
-abbrev pub added : ℕ → Symbols → Result Symbols Flaw
+abbrev pub added : ℕ → PictureSymbols → Result PictureSymbols Flaw
 added count symbols =
     if nat_le (symbols.whole + symbols.part + count) (most symbols.shape)
     then Ok (counted count symbols symbols.shape)
@@ -111,7 +111,7 @@ number signed whole part =
     if nat_le (whole + part) 18 then Ok (pictures.Number signed whole part) else Err flaws.Digits
 
 -- the picture that these symbols are, by their shape
-abbrev pub picture_by : Shape → Symbols → Result Picture Flaw
+abbrev pub picture_by : PictureShape → PictureSymbols → Result Picture Flaw
 picture_by shapes.Start symbols = Err flaws.Order
 picture_by shapes.Nines symbols = number false symbols.whole 0
 picture_by shapes.Signed symbols = number true symbols.whole 0
@@ -120,5 +120,5 @@ picture_by shapes.Letters symbols = Ok (pictures.Letters symbols.whole)
 picture_by shapes.Any symbols = Ok (pictures.Any symbols.whole)
 
 -- the picture that these symbols are
-abbrev pub picture : Symbols → Result Picture Flaw
+abbrev pub picture : PictureSymbols → Result Picture Flaw
 picture symbols = picture_by symbols.shape symbols

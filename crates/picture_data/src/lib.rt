@@ -18,8 +18,8 @@ use crate::edited::{edited_picture, is_edited};
 use crate::reading::plain_picture;
 use cob_tree::Picture;
 pub use fault::PictureFault;
-pub use reading::{Reading, SymbolPosition};
-pub use symbols::{Shape, Symbols};
+pub use reading::{PictureReading, SymbolPosition};
+pub use symbols::{PictureShape, PictureSymbols};
 
 /// The picture of this text, its letters in either case.
 pub fn read_picture(text: &[u8]) -> Result<Picture, PictureFault>

@@ -4,7 +4,7 @@ ghost use Rattle.std.specs.Prelude.{◌≡◌, ◌<◌, ◌^◌, length};
 ghost use Rattle.picture_data.specs.Reading as readings;
 
 use crate::fault::{Flaw, PictureFault};
-use crate::symbols::{Shape, Symbols};
+use crate::symbols::{PictureShape, PictureSymbols};
 use cob_tree::Picture;
 
 /// How far the text has come in a run of a symbol.
@@ -20,19 +20,19 @@ pub enum SymbolPosition {
 
 /// What was read so far of a picture. A symbol whose count is being read counts once.
 #[derive(Clone, Copy, Debug, PartialEq, Eq)]
-pub struct Reading {
-    pub symbols: Symbols,
+pub struct PictureReading {
+    pub symbols: PictureSymbols,
     pub place: SymbolPosition,
 }
 
-impl Reading {
+impl PictureReading {
     /// The reading before the first byte.
-    pub fn start() -> Reading
+    pub fn start() -> PictureReading
         ensures { result ≡ readings.start }
     {
-        Reading {
-            symbols: Symbols {
-                shape: Shape::Start,
+        PictureReading {
+            symbols: PictureSymbols {
+                shape: PictureShape::Start,
                 whole: 0,
                 part: 0,
             },
@@ -42,12 +42,12 @@ impl Reading {
 
     /// The reading after one more byte, a letter of which is taken in capitals.
     #[tactic(auto, unfolding(crate::specs::Reading::step))]
-    pub fn step(self, byte: u8) -> Result<Reading, Flaw>
+    pub fn step(self, byte: u8) -> Result<PictureReading, Flaw>
         ensures { result ≡ readings.step byte self }
     {
         match self.place {
             SymbolPosition::Open => self.symbol(byte),
-            SymbolPosition::Behind if byte == b'(' => Ok(Reading {
+            SymbolPosition::Behind if byte == b'(' => Ok(PictureReading {
                 symbols: self.symbols,
                 place: SymbolPosition::Count(0),
             }),
@@ -56,7 +56,7 @@ impl Reading {
         }
     }
 
-    fn in_count(self, count: u32, byte: u8) -> Result<Reading, Flaw>
+    fn in_count(self, count: u32, byte: u8) -> Result<PictureReading, Flaw>
         ensures { result ≡ readings.in_count count byte self }
     {
         if byte.is_ascii_digit() {
@@ -68,7 +68,7 @@ impl Reading {
         Err(flaw_of(byte))
     }
 
-    fn digit(self, count: u32, digit: u8) -> Result<Reading, Flaw>
+    fn digit(self, count: u32, digit: u8) -> Result<PictureReading, Flaw>
         requires { digit < 10 }
         ensures { result ≡ readings.digit count digit self }
     {
@@ -77,42 +77,42 @@ impl Reading {
             return Err(self.symbols.shape.too_many());
         }
         self.symbols.added((value as u32).saturating_sub(1))?;
-        Ok(Reading {
+        Ok(PictureReading {
             symbols: self.symbols,
             place: SymbolPosition::Count(value as u32),
         })
     }
 
-    fn closed(self, count: u32) -> Result<Reading, Flaw>
+    fn closed(self, count: u32) -> Result<PictureReading, Flaw>
         ensures { result ≡ readings.closed count self }
     {
         if count == 0 {
             return Err(Flaw::Order);
         }
-        Ok(Reading {
+        Ok(PictureReading {
             symbols: self.symbols.added(count - 1)?,
             place: SymbolPosition::Open,
         })
     }
 
-    fn symbol(self, byte: u8) -> Result<Reading, Flaw>
+    fn symbol(self, byte: u8) -> Result<PictureReading, Flaw>
         ensures { result ≡ readings.symbol byte self }
     {
         let Some(shape) = self.symbols.shape.behind(byte) else {
             return Err(flaw_of(byte));
         };
-        let symbols = Symbols {
+        let symbols = PictureSymbols {
             shape,
             whole: self.symbols.whole,
             part: self.symbols.part,
         };
         if byte == b'S' || byte == b'V' {
-            return Ok(Reading {
+            return Ok(PictureReading {
                 symbols: symbols.added(0)?,
                 place: SymbolPosition::Open,
             });
         }
-        Ok(Reading {
+        Ok(PictureReading {
             symbols: symbols.added(1)?,
             place: SymbolPosition::Behind,
         })
@@ -144,7 +144,7 @@ pub fn plain_picture(text: &[u8]) -> Result<Picture, PictureFault>
     requires { length text.now < 2 ^ 31 }
     ensures { result ≡ readings.plain_picture text.now }
 {
-    let mut reading = Reading::start();
+    let mut reading = PictureReading::start();
     for (before, byte) in text.iter().enumerate() {
         match reading.step(byte.to_ascii_uppercase()) {
             Ok(next) => reading = next,

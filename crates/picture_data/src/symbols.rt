@@ -8,7 +8,7 @@ use cob_tree::Picture;
 
 /// What the symbols so far can still become.
 #[derive(Clone, Copy, Debug, PartialEq, Eq)]
-pub enum Shape {
+pub enum PictureShape {
     /// Anything.
     Start,
     /// Nines alone: a number, or characters where an X or A comes.
@@ -25,17 +25,17 @@ pub enum Shape {
 
 /// The symbols so far, with counts.
 #[derive(Clone, Copy, Debug, PartialEq, Eq)]
-pub struct Symbols {
-    pub shape: Shape,
+pub struct PictureSymbols {
+    pub shape: PictureShape,
     /// How many of them, without those after the V.
     pub whole: u32,
     /// How many after the V.
     pub part: u32,
 }
 
-impl Shape {
+impl PictureShape {
     /// The shape after one more symbol, where that symbol may come.
-    pub fn behind(self, symbol: u8) -> Option<Shape>
+    pub fn behind(self, symbol: u8) -> Option<PictureShape>
         ensures { result ≡ symbols.behind symbol self }
     {
         match symbol {
@@ -48,50 +48,53 @@ impl Shape {
         }
     }
 
-    fn behind_sign(self) -> Option<Shape>
+    fn behind_sign(self) -> Option<PictureShape>
         ensures { result ≡ symbols.behind_sign self }
     {
         match self {
-            Shape::Start => Some(Shape::Signed),
+            PictureShape::Start => Some(PictureShape::Signed),
             _ => None,
         }
     }
 
-    fn behind_point(self) -> Option<Shape>
+    fn behind_point(self) -> Option<PictureShape>
         ensures { result ≡ symbols.behind_point self }
     {
         match self {
-            Shape::Start | Shape::Nines => Some(Shape::Point { signed: false }),
-            Shape::Signed => Some(Shape::Point { signed: true }),
+            PictureShape::Start | PictureShape::Nines => Some(PictureShape::Point {
+                signed: false,
+            }),
+            PictureShape::Signed => Some(PictureShape::Point { signed: true }),
             _ => None,
         }
     }
 
-    fn behind_nine(self) -> Shape
+    fn behind_nine(self) -> PictureShape
         ensures { result ≡ symbols.behind_nine self }
     {
         match self {
-            Shape::Start => Shape::Nines,
-            Shape::Letters => Shape::Any,
+            PictureShape::Start => PictureShape::Nines,
+            PictureShape::Letters => PictureShape::Any,
             _ => self,
         }
     }
 
-    fn behind_letter(self) -> Option<Shape>
+    fn behind_letter(self) -> Option<PictureShape>
         ensures { result ≡ symbols.behind_letter self }
     {
         match self {
-            Shape::Start | Shape::Letters => Some(Shape::Letters),
-            Shape::Nines | Shape::Any => Some(Shape::Any),
+            PictureShape::Start | PictureShape::Letters => Some(PictureShape::Letters),
+            PictureShape::Nines | PictureShape::Any => Some(PictureShape::Any),
             _ => None,
         }
     }
 
-    fn behind_any(self) -> Option<Shape>
+    fn behind_any(self) -> Option<PictureShape>
         ensures { result ≡ symbols.behind_any self }
     {
         match self {
-            Shape::Start | Shape::Letters | Shape::Nines | Shape::Any => Some(Shape::Any),
+            PictureShape::Start | PictureShape::Letters | PictureShape::Nines | PictureShape::Any =>
+                Some(PictureShape::Any),
             _ => None,
         }
     }
@@ -100,7 +103,7 @@ impl Shape {
         ensures { result ≡ symbols.is_number self }
     {
         match self {
-            Shape::Signed | Shape::Point { .. } => true,
+            PictureShape::Signed | PictureShape::Point { .. } => true,
             _ => false,
         }
     }
@@ -124,9 +127,9 @@ impl Shape {
     }
 }
 
-impl Symbols {
+impl PictureSymbols {
     /// So many more of the last symbol.
-    pub fn added(self, count: u32) -> Result<Symbols, Flaw>
+    pub fn added(self, count: u32) -> Result<PictureSymbols, Flaw>
         ensures { result ≡ symbols.added count self }
     {
         let total = self.whole as u64 + self.part as u64 + count as u64;
@@ -134,12 +137,12 @@ impl Symbols {
             return Err(self.shape.too_many());
         }
         Ok(match self.shape {
-            Shape::Point { .. } => Symbols {
+            PictureShape::Point { .. } => PictureSymbols {
                 shape: self.shape,
                 whole: self.whole,
                 part: self.part + count,
             },
-            _ => Symbols {
+            _ => PictureSymbols {
                 shape: self.shape,
                 whole: self.whole + count,
                 part: self.part,
@@ -152,12 +155,12 @@ impl Symbols {
         ensures { result ≡ symbols.picture self }
     {
         match self.shape {
-            Shape::Start => Err(Flaw::Order),
-            Shape::Nines => number(false, self.whole, 0),
-            Shape::Signed => number(true, self.whole, 0),
-            Shape::Point { signed } => number(signed, self.whole, self.part),
-            Shape::Letters => Ok(Picture::Letters(self.whole)),
-            Shape::Any => Ok(Picture::Any(self.whole)),
+            PictureShape::Start => Err(Flaw::Order),
+            PictureShape::Nines => number(false, self.whole, 0),
+            PictureShape::Signed => number(true, self.whole, 0),
+            PictureShape::Point { signed } => number(signed, self.whole, self.part),
+            PictureShape::Letters => Ok(Picture::Letters(self.whole)),
+            PictureShape::Any => Ok(Picture::Any(self.whole)),
         }
     }
 }

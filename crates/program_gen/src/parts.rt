@@ -6,8 +6,8 @@ ghost use Rattle.program_gen.specs.Generated.{counter, counter_entry, count_one,
 
 use cob_base::{Items, NoMemory, Word};
 use cob_tree::{
-    Arms, Calc, Cond, Digits, Entry, Expr, Number, Operand, Paragraph, Picture, Place, Rel,
-    Sentence, Sign, Stmt, Target, Usage,
+    Arms, Calc, Cond, Entry, Expr, Number, Operand, Paragraph, Picture, Place, Rel, Sentence, Sign,
+    SpelledDigits, Stmt, Target, Usage,
 };
 use cob_words::numbered::{capital_word, numbered, numbered_text};
 use std::alloc::Global;
@@ -28,7 +28,7 @@ fn whole(alloc: Global, n: u32) -> Result<Number, NoMemory>
     let digits = numbered_text(alloc, b"", n)?;
     Ok(Number {
         negative: false,
-        digits: Digits::new(digits),
+        digits: SpelledDigits::new(digits),
         scale: 0,
     })
 }

@@ -9,7 +9,7 @@ ghost use Rattle.region_rewrite.specs.Shaping.{Shapes, nesting_passed};
 
 use crate::ordering::close;
 use crate::written_nesting::body_nesting;
-use branch_tree::{Added, End, Graph, Node, Piece, Tree};
+use branch_tree::{Added, End, Graph, Node, Piece};
 use cob_base::limit::{MAX_NESTING, past};
 use cob_base::{Limit, LimitKind};
 use cob_tree::SplitFault;
@@ -46,7 +46,7 @@ fn one_node(graph: Graph) -> Result<Shaped, SplitFault>
         None => unreachable!(),
         Some(node) => {
             let Node { label: _, tree } = node;
-            let Tree { body, end } = tree;
+            let (body, end) = tree.into_parts();
             if body_nesting(&body) > MAX_NESTING {
                 return Err(SplitFault::Limit(nesting_passed()));
             }

@@ -45,6 +45,10 @@ module _ (are_fixed : ResultsAreFixed) (bytes : List ℕ) (is : IsResultText byt
   none-refused (refusal.Abend abend) h = h
   none-refused (refusal.Budget steps) h = h
   none-refused refusal.ReadFault h = h
+  none-refused refusal.NoSecond h = h
+  none-refused (refusal.Second why) h = h
+  none-refused (refusal.SecondDevice name) h = h
+  none-refused (refusal.Differ number) h = h
   none-refused refusal.WriteFault h = h
   none-refused refusal.NoMemory h = h
 
@@ -78,6 +82,7 @@ module _ (are_fixed : ResultsAreFixed) (bytes : List ℕ) (is : IsResultText byt
     comes status.DeviceFault h = absurd h
     comes status.Abend h = absurd h
     comes status.Budget h = absurd h
+    comes status.Differ h = absurd h
     comes status.NoMemory h = (inr (inr (inr (inl refl))), λ e. absurd (let k : ⊥ = cc in k))
 
 pub result-again : ResultsAreFixed → ResultComesAgain

@@ -4,8 +4,8 @@ use Rattle.std.specs.Prelude.{codes, if◌then◌else◌, option_map}
 use Rattle.std.specs.Str.{bytes_eq}
 use Rattle.std.proofs.lemmas.Slice.Eq.{bytes_eq-Decides}
 use Rattle.restructure_asks.specs.declared.ask.Ask.{Ask}
-use Rattle.restructure_asks.specs.declared.ask.Ask.TheVariants.{Restructure, Report, Check, Run, Generate, Trial}
-use Rattle.restructure_asks.specs.Ask.{ask_of, ask_of_word, ask_of_two, report_of, generate_of, trial_of, run_of, number_of, program_number}
+use Rattle.restructure_asks.specs.declared.ask.Ask.TheVariants.{Restructure, Report, Check, Run, Compare, Generate, Trial}
+use Rattle.restructure_asks.specs.Ask.{ask_of, ask_of_word, ask_of_two, report_of, generate_of, trial_of, steps_of, run_of, compare_of, number_of, program_number}
 use Rattle.restructure_asks.specs.Laws.{AreWordsOf, WordsAreOfTheirAsk}
 
 -- ---- which words an ask was found for
@@ -50,16 +50,22 @@ found-two word other = by-tests (bytes_eq word (codes "restructure")) (bytes_eq 
   by-tests false false true first second third = found-trial word other (third refl)
   by-tests false false false first second third = tt
 
-found-three : (word option number : List ℕ) → Found (run_of word option number) (word ∷ option ∷ number ∷ [])
-found-three word option number = by-tests (bytes_eq word (codes "run")) (bytes_eq option (codes "--steps")) (is-word word _) (is-word option _) where
-  by-number : word ≡ codes "run" → option ≡ codes "--steps" → (found : Option ℕ) → number_of number ≡ found → Found (option_map (λ n. Run n) found) (word ∷ option ∷ number ∷ [])
-  by-number is was None e = tt
-  by-number is was (Some n) e = (number, ap (λ w. w ∷ option ∷ number ∷ []) is ∙ ap (λ o. codes "run" ∷ o ∷ number ∷ []) was, e)
+-- an ask of three words, whose first two are these and whose third is its number
+found-number : (first word option number : List ℕ) (ask : ℕ → Ask) →
+    ((n : ℕ) → number_of number ≡ Some n → (words : List (List ℕ)) → words ≡ first ∷ codes "--steps" ∷ number ∷ [] → AreWordsOf (ask n) words) →
+    word ≡ first → option ≡ codes "--steps" → Found (option_map ask (number_of number)) (word ∷ option ∷ number ∷ [])
+found-number first word option number ask are is was = by-number (number_of number) refl where
+  by-number : (found : Option ℕ) → number_of number ≡ found → Found (option_map ask found) (word ∷ option ∷ number ∷ [])
+  by-number None e = tt
+  by-number (Some n) e = are n e (word ∷ option ∷ number ∷ []) (ap (λ w. w ∷ option ∷ number ∷ []) is ∙ ap (λ o. first ∷ o ∷ number ∷ []) was)
 
-  by-tests : (a b : Bool) → (a ≡ true → word ≡ codes "run") → (b ≡ true → option ≡ codes "--steps") → Found (if a then (if b then option_map (λ n. Run n) (number_of number) else None) else None) (word ∷ option ∷ number ∷ [])
-  by-tests true true first second = by-number (first refl) (second refl) (number_of number) refl
-  by-tests true false first second = tt
-  by-tests false b first second = tt
+found-three : (word option number : List ℕ) → Found (steps_of word option number) (word ∷ option ∷ number ∷ [])
+found-three word option number = by-tests (bytes_eq option (codes "--steps")) (bytes_eq word (codes "run")) (bytes_eq word (codes "compare")) (is-word option _) (is-word word _) (is-word word _) where
+  by-tests : (a b c : Bool) → (a ≡ true → option ≡ codes "--steps") → (b ≡ true → word ≡ codes "run") → (c ≡ true → word ≡ codes "compare") → Found (if a then (if b then run_of number else if c then compare_of number else None) else None) (word ∷ option ∷ number ∷ [])
+  by-tests true true c first second third = found-number (codes "run") word option number (λ n. Run n) (λ n e words is. (number, is, e)) (second refl) (first refl)
+  by-tests true false true first second third = found-number (codes "compare") word option number (λ n. Compare n) (λ n e words is. (number, is, e)) (third refl) (first refl)
+  by-tests true false false first second third = tt
+  by-tests false b c first second third = tt
 
 found : (words : List (List ℕ)) → Found (ask_of words) words
 found [] = tt
@@ -78,6 +84,7 @@ asked Restructure words h = ap ask_of h
 asked Report words h = ap ask_of h
 asked Check words h = ap ask_of h
 asked (Run steps) words h = ap ask_of h.1 ∙ ap (option_map (λ n. Run n)) h.2
+asked (Compare steps) words h = ap ask_of h.1 ∙ ap (option_map (λ n. Compare n)) h.2
 asked (Generate n) words h = ap ask_of h.1 ∙ ap (option_map (λ m. Generate m)) h.2
 asked (Trial n) words h = ap ask_of h.1 ∙ ap (option_map (λ m. Trial m)) h.2
 

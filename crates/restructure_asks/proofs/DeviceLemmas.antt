@@ -1,12 +1,13 @@
 -- A device fault that is told is one of a device.
-use Rattle.std.proofs.Common.{◌≡◌, ◌∙◌, sym, subst, refl, ℕ, List, Option, Some, ◌⊎◌, inl, inr}
+use Rattle.std.proofs.Common.{◌≡◌, ◌∙◌, Bool, true, false, sym, ap, subst, refl, ℕ, List, Option, Some, ◌⊎◌, inl, inr}
 use Rattle.cob_base.specs.Source.{SourceCall}
 use Rattle.cob_base.specs.Sink.{SinkCall}
 use Rattle.cobol_run.specs.declared.machine.Ending.TheVariants as ending
 use Rattle.cobol_run.specs.declared.running.Ran.TheVariants as ran
 use Rattle.restructure_core.specs.declared.fault.Refused.{Refused}
 use Rattle.restructure_core.specs.declared.fault.Refused.TheVariants as refused
-use Rattle.restructure_core.specs.Fault.{of_read_refusal}
+use Rattle.cobol_read.specs.declared.refusal.ReadRefusal.{ReadRefusal}
+use Rattle.cobol_read.specs.declared.refusal.ReadRefusal.TheVariants as rd
 use Rattle.restructure_core.specs.declared.run.Came.{Came}
 use Rattle.restructure_core.specs.declared.run.Came.TheVariants as came
 use Rattle.restructure_core.specs.run.Answers.{CameFalls}
@@ -17,81 +18,76 @@ use Rattle.restructure_asks.specs.declared.refusal.Refusal.TheVariants as refusa
 use Rattle.restructure_asks.specs.declared.status.Status.{Status}
 use Rattle.restructure_asks.specs.declared.status.Status.TheVariants as status
 use Rattle.restructure_asks.specs.declared.texts.Texts.{Texts}
-use Rattle.restructure_asks.specs.Refusal.{line_of, of_refused, refused_status, status_of}
+use Rattle.restructure_asks.specs.Refusal.{line_of, refused_status, status_of}
 use Rattle.restructure_asks.specs.Running.{IsDeviceTold, TellsCame, refusal_of, unread}
 use Rattle.restructure_asks.specs.Tool.{EndsOfText}
 use Rattle.cob_base.specs.giving.Giving.{Takes}
 use Rattle.restructure_asks.specs.Writing.{Notes, Writes}
 
--- the line of a device went to the notes
-record Told (r : Refusal) (notes : SinkCall) : Type 0 where
-  pub name : List ℕ
-  pub is : r ≡ refusal.Device name
-  pub noted : Takes (line_of (refusal.Device name)) notes
+-- whether the refusal tells of a device that failed
+abbrev pub is_of_device : Refusal → Bool
+is_of_device (refusal.Device name) = true
+is_of_device (refusal.SecondDevice name) = true
+is_of_device _ = false
 
+-- its status tells whether it does
 refused_never : (why : Refused) → refused_status why ≡ status.DeviceFault → ⊥
 refused_never (refused.NotSubset why) e = let x : status.NotSubset ≡ status.DeviceFault = e in cc
 refused_never (refused.Flow program trail) e = let x : status.Flow ≡ status.DeviceFault = e in cc
 refused_never (refused.Limit limit) e = let x : status.Limit ≡ status.DeviceFault = e in cc
 refused_never refused.NoMemory e = let x : status.NoMemory ≡ status.DeviceFault = e in cc
 
-told_by : (r : Refusal) (notes : SinkCall) → status_of r ≡ status.DeviceFault → Takes (line_of r) notes → Told r notes
-told_by refusal.Usage notes e noted = absurd (let x : status.Usage ≡ status.DeviceFault = e in cc)
-told_by (refusal.Refused why) notes e noted = absurd (refused_never why e)
-told_by (refusal.Fault program fault) notes e noted = absurd (let x : status.Flow ≡ status.DeviceFault = e in cc)
-told_by (refusal.Abend abend) notes e noted = absurd (let x : status.Abend ≡ status.DeviceFault = e in cc)
-told_by (refusal.Budget most) notes e noted = absurd (let x : status.Budget ≡ status.DeviceFault = e in cc)
-told_by (refusal.Device name) notes e noted = record { name = name; is = refl; noted = noted }
-told_by refusal.ReadFault notes e noted = absurd (let x : status.ReadFault ≡ status.DeviceFault = e in cc)
-told_by refusal.WriteFault notes e noted = absurd (let x : status.WriteFault ≡ status.DeviceFault = e in cc)
-told_by refusal.NoMemory notes e noted = absurd (let x : status.NoMemory ≡ status.DeviceFault = e in cc)
+status_never : (r : Refusal) → is_of_device r ≡ false → status_of r ≡ status.DeviceFault → ⊥
+status_never refusal.Usage other e = let x : status.Usage ≡ status.DeviceFault = e in cc
+status_never (refusal.Refused why) other e = refused_never why e
+status_never (refusal.Fault program fault) other e = let x : status.Flow ≡ status.DeviceFault = e in cc
+status_never (refusal.Abend abend) other e = let x : status.Abend ≡ status.DeviceFault = e in cc
+status_never (refusal.Budget most) other e = let x : status.Budget ≡ status.DeviceFault = e in cc
+status_never (refusal.Device name) other e = let x : true ≡ false = other in cc
+status_never refusal.NoSecond other e = let x : status.NotSubset ≡ status.DeviceFault = e in cc
+status_never (refusal.Second why) other e = refused_never why e
+status_never (refusal.SecondDevice name) other e = let x : true ≡ false = other in cc
+status_never (refusal.Differ number) other e = let x : status.Differ ≡ status.DeviceFault = e in cc
+status_never refusal.ReadFault other e = let x : status.ReadFault ≡ status.DeviceFault = e in cc
+status_never refusal.WriteFault other e = let x : status.WriteFault ≡ status.DeviceFault = e in cc
+status_never refusal.NoMemory other e = let x : status.NoMemory ≡ status.DeviceFault = e in cc
 
-told_noted : (r : Refusal) (notes : SinkCall) (answer : Status) → answer ≡ status.DeviceFault → Notes r notes answer → Told r notes
-told_noted r notes answer is (inl h) = told_by r notes (sym h.0 ∙ is) h.1
-told_noted r notes answer is (inr h) = absurd (let x : status.NoMemory ≡ status.DeviceFault = sym h.0 ∙ is in cc)
+-- at this status the line of the refusal went to the notes
+pub noted_line : (r : Refusal) (notes : SinkCall) (answer : Status) → answer ≡ status.DeviceFault → Notes r notes answer → Takes (line_of r) notes
+noted_line r notes answer is (inl h) = h.1
+noted_line r notes answer is (inr h) = absurd (let x : status.NoMemory ≡ status.DeviceFault = sym h.0 ∙ is in cc)
 
-told : (r : Refusal) (notes : SinkCall) (answer : Status) → answer ≡ status.DeviceFault → TellsCame (Some r) notes answer → Told r notes
-told refusal.Usage notes answer is h = told_noted refusal.Usage notes answer is h
-told (refusal.Refused why) notes answer is h = told_noted (refusal.Refused why) notes answer is h
-told (refusal.Fault program fault) notes answer is h = told_noted (refusal.Fault program fault) notes answer is h
-told (refusal.Abend abend) notes answer is h = told_noted (refusal.Abend abend) notes answer is h
-told (refusal.Budget most) notes answer is h = told_noted (refusal.Budget most) notes answer is h
-told (refusal.Device name) notes answer is h = told_noted (refusal.Device name) notes answer is h
-told refusal.ReadFault notes answer is h = told_noted refusal.ReadFault notes answer is h
-told refusal.WriteFault notes answer is h = absurd (let x : status.WriteFault ≡ status.DeviceFault = sym h.0 ∙ is in cc)
-told refusal.NoMemory notes answer is h = told_noted refusal.NoMemory notes answer is h
+-- and it is that of a device
+pub noted_never : (r : Refusal) (notes : SinkCall) (answer : Status) → is_of_device r ≡ false → Notes r notes answer → answer ≡ status.DeviceFault → ⊥
+noted_never r notes answer other (inl h) is = status_never r other (sym h.0 ∙ is)
+noted_never r notes answer other (inr h) is = let x : status.NoMemory ≡ status.DeviceFault = sym h.0 ∙ is in cc
 
-unread_never : (why : Refused) (notes : SinkCall) → Told (of_refused why) notes → ⊥
-unread_never (refused.NotSubset why) notes t = let x : refusal.Refused (refused.NotSubset why) ≡ refusal.Device t.name = t.is in cc
-unread_never (refused.Flow program trail) notes t = let x : refusal.Refused (refused.Flow program trail) ≡ refusal.Device t.name = t.is in cc
-unread_never (refused.Limit limit) notes t = let x : refusal.Refused (refused.Limit limit) ≡ refusal.Device t.name = t.is in cc
-unread_never refused.NoMemory notes t = let x : refusal.NoMemory ≡ refusal.Device t.name = t.is in cc
+-- a source that isn't read tells of none
+unread_never : (why : ReadRefusal) (notes : SinkCall) (answer : Status) → TellsCame (Some (unread why)) notes answer → answer ≡ status.DeviceFault → ⊥
+unread_never (rd.Fault fault) notes answer h is = noted_never (unread (rd.Fault fault)) notes answer refl h is
+unread_never (rd.Limit limit) notes answer h is = noted_never (unread (rd.Limit limit)) notes answer refl h is
+unread_never rd.NoMemory notes answer h is = noted_never refusal.NoMemory notes answer refl h is
 
 pub device_told : (steps : ℕ) (c : Came) (notes : SinkCall) (answer : Status) (bench : BenchCall) → TellsCame (refusal_of steps c) notes answer → CameFalls c bench → answer ≡ status.DeviceFault → IsDeviceTold notes bench
 device_told steps (came.Ran program (ran.DeviceFault name)) notes answer bench tells falls is =
-    let t : Told (refusal.Device name) notes = told_noted (refusal.Device name) notes answer is tells in
-    record { name = name; fell = falls; noted = subst (λ r. Takes (line_of r) notes) (sym t.is) t.noted }
+    record { name = name; fell = falls; noted = noted_line (refusal.Device name) notes answer is tells }
 device_told steps (came.Ran program (ran.Ended ending.Stopped)) notes answer bench tells falls is =
     absurd (let x : status.Done ≡ status.DeviceFault = sym tells.0 ∙ is in cc)
 device_told steps (came.Ran program (ran.Ended (ending.Abended abend))) notes answer bench tells falls is =
-    absurd (let x : refusal.Abend abend ≡ refusal.Device (told_noted (refusal.Abend abend) notes answer is tells).name = (told_noted (refusal.Abend abend) notes answer is tells).is in cc)
+    absurd (noted_never (refusal.Abend abend) notes answer refl tells is)
 device_told steps (came.Ran program (ran.Ended (ending.Faulted fault))) notes answer bench tells falls is =
-    absurd (let x : refusal.Fault program fault ≡ refusal.Device (told_noted (refusal.Fault program fault) notes answer is tells).name = (told_noted (refusal.Fault program fault) notes answer is tells).is in cc)
+    absurd (noted_never (refusal.Fault program fault) notes answer refl tells is)
 device_told steps (came.Ran program ran.Budget) notes answer bench tells falls is =
-    absurd (let x : refusal.Budget steps ≡ refusal.Device (told_noted (refusal.Budget steps) notes answer is tells).name = (told_noted (refusal.Budget steps) notes answer is tells).is in cc)
+    absurd (noted_never (refusal.Budget steps) notes answer refl tells is)
 device_told steps (came.Ran program ran.WriteFault) notes answer bench tells falls is =
     absurd (let x : status.WriteFault ≡ status.DeviceFault = sym tells.0 ∙ is in cc)
 device_told steps (came.Ran program ran.NoMemory) notes answer bench tells falls is =
-    absurd (let x : refusal.NoMemory ≡ refusal.Device (told_noted refusal.NoMemory notes answer is tells).name = (told_noted refusal.NoMemory notes answer is tells).is in cc)
-device_told steps (came.Refused why) notes answer bench tells falls is =
-    absurd (unread_never (of_read_refusal why) notes (told (unread why) notes answer is tells))
+    absurd (noted_never refusal.NoMemory notes answer refl tells is)
+device_told steps (came.Refused why) notes answer bench tells falls is = absurd (unread_never why notes answer tells is)
 device_told steps came.NoMemory notes answer bench tells falls is =
-    absurd (let x : refusal.NoMemory ≡ refusal.Device (told_noted refusal.NoMemory notes answer is tells).name = (told_noted refusal.NoMemory notes answer is tells).is in cc)
+    absurd (noted_never refusal.NoMemory notes answer refl tells is)
 
--- other refusals and asks tell of none
-
-pub noted_never : (r : Refusal) (notes : SinkCall) (answer : Status) → ((name : List ℕ) → r ≡ refusal.Device name → ⊥) → Notes r notes answer → answer ≡ status.DeviceFault → ⊥
-noted_never r notes answer other h is = let t : Told r notes = told_noted r notes answer is h in other t.name t.is
+-- other asks tell of none
 
 pub text_never : (ask : Option Ask) (source : SourceCall) (out notes : SinkCall) (answer : Status) → EndsOfText ask source out notes answer → answer ≡ status.DeviceFault → ⊥
 text_never ask source out notes answer h is = subst (λ s. EndsOfText ask source out notes s) is h
@@ -100,5 +96,5 @@ pub written_never : (texts : Texts) (out notes : SinkCall) (answer : Status) →
 written_never texts out notes answer h is = subst (λ s. Writes texts out notes s) is h
 
 pub unrun_never : (r : Refusal) (notes : SinkCall) (answer : Status) → (r ≡ refusal.ReadFault) ⊎ (r ≡ refusal.NoMemory) → Notes r notes answer → answer ≡ status.DeviceFault → ⊥
-unrun_never r notes answer (inl which) h is = noted_never r notes answer (λ name e. let x : refusal.ReadFault ≡ refusal.Device name = sym which ∙ e in cc) h is
-unrun_never r notes answer (inr which) h is = noted_never r notes answer (λ name e. let x : refusal.NoMemory ≡ refusal.Device name = sym which ∙ e in cc) h is
+unrun_never r notes answer (inl which) h is = noted_never r notes answer (ap is_of_device which) h is
+unrun_never r notes answer (inr which) h is = noted_never r notes answer (ap is_of_device which) h is

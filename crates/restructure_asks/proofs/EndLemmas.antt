@@ -17,7 +17,7 @@ use Rattle.restructure_core.specs.Fault.{of_read_refusal}
 use Rattle.restructure_core.specs.Pipeline.{IsUnread, IsFaultySourceBy, IsPastRanges, IsPastLimit, IsRestructured, HasCause}
 use Rattle.restructure_asks.proofs.LengthLemmas.{short-read, short-either}
 use Rattle.restructure_asks.specs.declared.ask.Ask.{Ask}
-use Rattle.restructure_asks.specs.declared.ask.Ask.TheVariants.{Restructure, Report, Check, Run, Generate, Trial}
+use Rattle.restructure_asks.specs.declared.ask.Ask.TheVariants.{Restructure, Report, Check, Run, Compare, Generate, Trial}
 use Rattle.restructure_asks.specs.declared.texts.Texts.{Texts}
 use Rattle.restructure_asks.specs.declared.refusal.Refusal.{Refusal}
 use Rattle.restructure_asks.specs.declared.refusal.Refusal.TheVariants as refusal
@@ -88,6 +88,10 @@ module _ (source : SourceCall) (text : List ℕ) (read : IsRead source text) whe
   refusal-due (refusal.Abend abend) h = h
   refusal-due (refusal.Budget steps) h = h
   refusal-due refusal.ReadFault h = h
+  refusal-due refusal.NoSecond h = h
+  refusal-due (refusal.Second why) h = h
+  refusal-due (refusal.SecondDevice name) h = h
+  refusal-due (refusal.Differ number) h = h
   refusal-due refusal.WriteFault h = h
   refusal-due refusal.NoMemory h = h
 
@@ -169,6 +173,10 @@ unasked-never (refusal.Fault program fault) never h = h
 unasked-never (refusal.Abend abend) never h = h
 unasked-never (refusal.Budget steps) never h = h
 unasked-never refusal.ReadFault never h = h
+unasked-never refusal.NoSecond never h = h
+unasked-never (refusal.Second why) never h = h
+unasked-never (refusal.SecondDevice name) never h = h
+unasked-never (refusal.Differ number) never h = h
 unasked-never refusal.WriteFault never h = h
 unasked-never refusal.NoMemory never h = h
 
@@ -180,6 +188,10 @@ refusal-never bytes (refusal.Fault program fault) never h = h
 refusal-never bytes (refusal.Abend abend) never h = h
 refusal-never bytes (refusal.Budget steps) never h = h
 refusal-never bytes refusal.ReadFault never h = h
+refusal-never bytes refusal.NoSecond never h = h
+refusal-never bytes (refusal.Second why) never h = h
+refusal-never bytes (refusal.SecondDevice name) never h = h
+refusal-never bytes (refusal.Differ number) never h = h
 refusal-never bytes refusal.WriteFault never h = h
 refusal-never bytes refusal.NoMemory never h = h
 
@@ -189,6 +201,7 @@ never-due (Some Restructure) bytes r never h = refusal-never bytes r never h
 never-due (Some Report) bytes r never h = refusal-never bytes r never h
 never-due (Some Check) bytes r never h = refusal-never bytes r never h
 never-due (Some (Run steps)) bytes r never h = h
+never-due (Some (Compare steps)) bytes r never h = h
 never-due (Some (Generate n)) bytes r never h = h
 never-due (Some (Trial n)) bytes r never h = refusal-never _ r never h
 
@@ -207,6 +220,10 @@ module _ (ask : Option Ask) (source : SourceCall) (out notes : SinkCall) where
   noted-ends (refusal.Abend abend) h kept noted = absurd (never-due ask h.bytes (refusal.Abend abend) tt h.due)
   noted-ends (refusal.Budget steps) h kept noted = absurd (never-due ask h.bytes (refusal.Budget steps) tt h.due)
   noted-ends refusal.ReadFault h kept noted = absurd (never-due ask h.bytes refusal.ReadFault tt h.due)
+  noted-ends refusal.NoSecond h kept noted = absurd (never-due ask h.bytes refusal.NoSecond tt h.due)
+  noted-ends (refusal.Second why) h kept noted = absurd (never-due ask h.bytes (refusal.Second why) tt h.due)
+  noted-ends (refusal.SecondDevice name) h kept noted = absurd (never-due ask h.bytes (refusal.SecondDevice name) tt h.due)
+  noted-ends (refusal.Differ number) h kept noted = absurd (never-due ask h.bytes (refusal.Differ number) tt h.due)
   noted-ends refusal.WriteFault h kept noted = absurd (never-due ask h.bytes refusal.WriteFault tt h.due)
   noted-ends refusal.NoMemory h kept noted = absurd (never-due ask h.bytes refusal.NoMemory tt h.due)
 
@@ -244,6 +261,7 @@ module _ (ask : Option Ask) (source : SourceCall) (out notes : SinkCall) where
   text-ends texts status.DeviceFault h g = absurd g
   text-ends texts status.Abend h g = absurd g
   text-ends texts status.Budget h g = absurd g
+  text-ends texts status.Differ h g = absurd g
   text-ends texts status.NoMemory h g = record { read = record { count = reads ask; within = omega arith; left = h.left }; kept = g.0; noted = g.1 }
 
   -- an answer that was given ends the call

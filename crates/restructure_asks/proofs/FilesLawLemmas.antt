@@ -49,6 +49,10 @@ of-due steps bytes files (Some (refusal.Abend abend)) h = of-ended h.0 (ending.A
 of-due steps bytes files (Some (refusal.Budget most)) h = of-going h.1.0 (ap (λ n. Some (refusal.Budget n)) h.0) h.1.1
 of-due steps bytes files (Some (refusal.Device name)) h = absurd h
 of-due steps bytes files (Some refusal.ReadFault) h = absurd h
+of-due steps bytes files (Some refusal.NoSecond) h = absurd h
+of-due steps bytes files (Some (refusal.Second why)) h = absurd h
+of-due steps bytes files (Some (refusal.SecondDevice name)) h = absurd h
+of-due steps bytes files (Some (refusal.Differ number)) h = absurd h
 of-due steps bytes files (Some refusal.WriteFault) h = absurd h
 of-due steps bytes files (Some refusal.NoMemory) h = absurd h
 
@@ -90,6 +94,10 @@ cut-comes steps bytes files program (Some (refusal.Abend abend)) reads h = inr (
 cut-comes steps bytes files program (Some (refusal.Budget most)) reads h = inr (inr (inl refl))
 cut-comes steps bytes files program (Some (refusal.Device name)) reads h = absurd h
 cut-comes steps bytes files program (Some refusal.ReadFault) reads h = absurd h
+cut-comes steps bytes files program (Some refusal.NoSecond) reads h = absurd h
+cut-comes steps bytes files program (Some (refusal.Second why)) reads h = absurd h
+cut-comes steps bytes files program (Some (refusal.SecondDevice name)) reads h = absurd h
+cut-comes steps bytes files program (Some (refusal.Differ number)) reads h = absurd h
 cut-comes steps bytes files program (Some refusal.WriteFault) reads h = absurd h
 cut-comes steps bytes files program (Some refusal.NoMemory) reads h = absurd h
 

@@ -14,7 +14,7 @@ use Rattle.program_points.specs.declared.paths.trail.Trail.{Trail}
 use Rattle.restructure_core.specs.Pipeline.{IsRestructured, IsFaultySource, IsRestructurable, IsRefusedByTrail, HasCause}
 use Rattle.restructure_core.proofs.OneAnswer.{Outcome, IsAlike, IsDueTo, alike, done-due, cause-due, comes-faulty, comes-done}
 use Rattle.restructure_asks.specs.declared.ask.Ask.{Ask}
-use Rattle.restructure_asks.specs.declared.ask.Ask.TheVariants.{Restructure, Report, Check, Run, Generate, Trial}
+use Rattle.restructure_asks.specs.declared.ask.Ask.TheVariants.{Restructure, Report, Check, Run, Compare, Generate, Trial}
 use Rattle.restructure_asks.specs.declared.texts.Texts.{Texts}
 use Rattle.restructure_asks.specs.declared.refusal.Refusal.{Refusal}
 use Rattle.restructure_asks.specs.declared.refusal.Refusal.TheVariants as refusal
@@ -37,6 +37,10 @@ unasked-is (Err (refusal.Fault program fault)) h = absurd h
 unasked-is (Err (refusal.Abend abend)) h = absurd h
 unasked-is (Err (refusal.Budget steps)) h = absurd h
 unasked-is (Err refusal.ReadFault) h = absurd h
+unasked-is (Err refusal.NoSecond) h = absurd h
+unasked-is (Err (refusal.Second why)) h = absurd h
+unasked-is (Err (refusal.SecondDevice name)) h = absurd h
+unasked-is (Err (refusal.Differ number)) h = absurd h
 unasked-is (Err refusal.WriteFault) h = absurd h
 unasked-is (Err refusal.NoMemory) h = absurd h
 
@@ -60,6 +64,10 @@ module _ (written : Done → Texts) where
   refusal-of-due bytes (refusal.Abend abend) h = absurd h
   refusal-of-due bytes (refusal.Budget steps) h = absurd h
   refusal-of-due bytes refusal.ReadFault h = absurd h
+  refusal-of-due bytes refusal.NoSecond h = absurd h
+  refusal-of-due bytes (refusal.Second why) h = absurd h
+  refusal-of-due bytes (refusal.SecondDevice name) h = absurd h
+  refusal-of-due bytes (refusal.Differ number) h = absurd h
   refusal-of-due bytes refusal.WriteFault h = absurd h
   refusal-of-due bytes refusal.NoMemory h = absurd h
 
@@ -106,6 +114,7 @@ one-answer (Some Restructure) bytes one other h g = alike-due alone bytes one ot
 one-answer (Some Report) bytes one other h g = alike-due both bytes one other (report-due bytes one h) (report-due bytes other g)
 one-answer (Some Check) bytes one other h g = one-check bytes one other h g
 one-answer (Some (Run steps)) bytes one other h g = absurd h
+one-answer (Some (Compare steps)) bytes one other h g = absurd h
 one-answer (Some (Generate n)) bytes one other h g = one-generated n one other h g
 one-answer (Some (Trial n)) bytes one other h g = one-check (program_text n) one other h g
 
@@ -150,6 +159,7 @@ text-comes ask source out notes status.WriteFault h bytes due told is_due =
 text-comes ask source out notes status.DeviceFault h bytes due told is_due = absurd h
 text-comes ask source out notes status.Abend h bytes due told is_due = absurd h
 text-comes ask source out notes status.Budget h bytes due told is_due = absurd h
+text-comes ask source out notes status.Differ h bytes due told is_due = absurd h
 text-comes ask source out notes status.NoMemory h bytes due told is_due = no-memory-comes due
 
 pub due-comes : DueAnswerComes
@@ -158,6 +168,7 @@ due-comes (Some Restructure) source out notes answer h bytes due told is_due = t
 due-comes (Some Report) source out notes answer h bytes due told is_due = text-comes (Some Report) source out notes answer h bytes due told is_due
 due-comes (Some Check) source out notes answer h bytes due told is_due = text-comes (Some Check) source out notes answer h bytes due told is_due
 due-comes (Some (Run steps)) source out notes answer h bytes due told is_due = absurd is_due
+due-comes (Some (Compare steps)) source out notes answer h bytes due told is_due = absurd is_due
 due-comes (Some (Generate n)) source out notes answer h bytes due told is_due = text-comes (Some (Generate n)) source out notes answer h bytes due told is_due
 due-comes (Some (Trial n)) source out notes answer h bytes due told is_due = text-comes (Some (Trial n)) source out notes answer h bytes due told is_due
 
@@ -183,6 +194,10 @@ accepted-never bytes (refusal.Fault program fault) h g = g
 accepted-never bytes (refusal.Abend abend) h g = g
 accepted-never bytes (refusal.Budget steps) h g = g
 accepted-never bytes refusal.ReadFault h g = g
+accepted-never bytes refusal.NoSecond h g = g
+accepted-never bytes (refusal.Second why) h g = g
+accepted-never bytes (refusal.SecondDevice name) h g = g
+accepted-never bytes (refusal.Differ number) h g = g
 accepted-never bytes refusal.WriteFault h g = g
 accepted-never bytes refusal.NoMemory h g = g
 
@@ -203,6 +218,7 @@ module _ (ask : Option Ask) (source : SourceCall) (out notes : SinkCall) (bytes 
   done-comes status.DeviceFault h = absurd h
   done-comes status.Abend h = absurd h
   done-comes status.Budget h = absurd h
+  done-comes status.Differ h = absurd h
   done-comes status.NoMemory h = inr (inr (inr (inl refl)))
 
 pub accepted-done : AcceptedSourceIsDone
@@ -210,6 +226,7 @@ accepted-done Restructure source out notes answer about h bytes told is = done-c
 accepted-done Report source out notes answer about h bytes told is = done-comes (Some Report) source out notes bytes told (λ r g. accepted-never bytes r is g) answer h
 accepted-done Check source out notes answer about h bytes told is = done-comes (Some Check) source out notes bytes told (λ r g. accepted-never bytes r is g) answer h
 accepted-done (Run steps) source out notes answer about h bytes told is = absurd about
+accepted-done (Compare steps) source out notes answer about h bytes told is = absurd about
 accepted-done (Generate n) source out notes answer about h bytes told is = absurd about
 accepted-done (Trial n) source out notes answer about h bytes told is = absurd about
 
@@ -234,6 +251,10 @@ faulty-status bytes program (refusal.Fault of fault) is g = absurd g
 faulty-status bytes program (refusal.Abend abend) is g = absurd g
 faulty-status bytes program (refusal.Budget steps) is g = absurd g
 faulty-status bytes program refusal.ReadFault is g = absurd g
+faulty-status bytes program refusal.NoSecond is g = absurd g
+faulty-status bytes program (refusal.Second why) is g = absurd g
+faulty-status bytes program (refusal.SecondDevice name) is g = absurd g
+faulty-status bytes program (refusal.Differ number) is g = absurd g
 faulty-status bytes program refusal.WriteFault is g = absurd g
 faulty-status bytes program refusal.NoMemory is g = absurd g
 
@@ -250,6 +271,10 @@ flow-cause bytes (refusal.Fault program fault) g e = absurd g
 flow-cause bytes (refusal.Abend abend) g e = absurd g
 flow-cause bytes (refusal.Budget steps) g e = absurd g
 flow-cause bytes refusal.ReadFault g e = absurd g
+flow-cause bytes refusal.NoSecond g e = absurd g
+flow-cause bytes (refusal.Second why) g e = absurd g
+flow-cause bytes (refusal.SecondDevice name) g e = absurd g
+flow-cause bytes (refusal.Differ number) g e = absurd g
 flow-cause bytes refusal.WriteFault g e = absurd g
 flow-cause bytes refusal.NoMemory g e = absurd g
 
@@ -272,6 +297,7 @@ module _ (ask : Option Ask) (source : SourceCall) (out notes : SinkCall) (bytes 
     fault-comes status.DeviceFault h = absurd h
     fault-comes status.Abend h = absurd h
     fault-comes status.Budget h = absurd h
+    fault-comes status.Differ h = absurd h
     fault-comes status.NoMemory h = inr (inr (inl refl))
 
   module _ (refusal : (r : Refusal) → IsDue ask bytes (Err r) → IsRefusalOf bytes r) where
@@ -286,6 +312,7 @@ faulty-refused Report source out notes answer about h bytes program told is =
 faulty-refused Check source out notes answer about h bytes program told is =
     fault-comes (Some Check) source out notes bytes told (λ texts g. faulty-undone bytes program _ is g.1.1) (λ r g. faulty-status bytes program r is g) answer h
 faulty-refused (Run steps) source out notes answer about h bytes program told is = absurd about
+faulty-refused (Compare steps) source out notes answer about h bytes program told is = absurd about
 faulty-refused (Generate n) source out notes answer about h bytes program told is = absurd about
 faulty-refused (Trial n) source out notes answer about h bytes program told is = absurd about
 
@@ -294,6 +321,7 @@ refused-faulty Restructure source out notes about h bytes told = flow-faulty (So
 refused-faulty Report source out notes about h bytes told = flow-faulty (Some Report) source out notes bytes told (λ r g. g) h
 refused-faulty Check source out notes about h bytes told = flow-faulty (Some Check) source out notes bytes told (λ r g. g) h
 refused-faulty (Run steps) source out notes about h bytes told = absurd about
+refused-faulty (Compare steps) source out notes about h bytes told = absurd about
 refused-faulty (Generate n) source out notes about h bytes told = absurd about
 refused-faulty (Trial n) source out notes about h bytes told = absurd about
 
@@ -314,6 +342,7 @@ usage-comes source out notes status.WriteFault h = absurd h.answered.due
 usage-comes source out notes status.DeviceFault h = absurd h
 usage-comes source out notes status.Abend h = absurd h
 usage-comes source out notes status.Budget h = absurd h
+usage-comes source out notes status.Differ h = absurd h
 usage-comes source out notes status.NoMemory h = inr (inl refl)
 
 pub generated-comes : GeneratedComes
@@ -327,6 +356,7 @@ generated-comes n source out notes status.WriteFault h = inr (inl refl)
 generated-comes n source out notes status.DeviceFault h = absurd h
 generated-comes n source out notes status.Abend h = absurd h
 generated-comes n source out notes status.Budget h = absurd h
+generated-comes n source out notes status.Differ h = absurd h
 generated-comes n source out notes status.NoMemory h = inr (inr (inl refl))
 
 pub all-read : WithinLimitAllIsRead

@@ -15,6 +15,8 @@ pub mod EndLemmas
 pub mod RunLemmas
 -- a device fault that is told is one of a device
 pub mod DeviceLemmas
+-- how a call that compares two programs ends
+pub mod CompareLemmas
 -- which words are of an ask
 pub mod AskLemmas
 -- what follows of how a call ends
@@ -25,5 +27,7 @@ pub mod RunLawLemmas
 pub mod FilesLawLemmas
 -- what a run leaves of its bench, by its status
 pub mod BenchLawLemmas
+-- at most one answer is due to two programs that are compared, and it comes
+pub mod CompareLawLemmas
 -- what was written is written again
 pub mod AgainLawLemmas

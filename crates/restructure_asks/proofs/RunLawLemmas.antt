@@ -113,6 +113,10 @@ of-due steps bytes (Some (refusal.Abend abend)) h = of-ended h.0 (ending.Abended
 of-due steps bytes (Some (refusal.Budget most)) h = of-going h.1.0 (ap (λ n. Some (refusal.Budget n)) h.0) h.1.1
 of-due steps bytes (Some (refusal.Device name)) h = absurd h
 of-due steps bytes (Some refusal.ReadFault) h = absurd h
+of-due steps bytes (Some refusal.NoSecond) h = absurd h
+of-due steps bytes (Some (refusal.Second why)) h = absurd h
+of-due steps bytes (Some (refusal.SecondDevice name)) h = absurd h
+of-due steps bytes (Some (refusal.Differ number)) h = absurd h
 of-due steps bytes (Some refusal.WriteFault) h = absurd h
 of-due steps bytes (Some refusal.NoMemory) h = absurd h
 
@@ -168,6 +172,10 @@ read-fault-comes (Some (refusal.Abend abend)) = inr (inr (inl refl))
 read-fault-comes (Some (refusal.Budget most)) = inr (inr (inl refl))
 read-fault-comes (Some (refusal.Device name)) = inr (inr (inl refl))
 read-fault-comes (Some refusal.ReadFault) = inl refl
+read-fault-comes (Some refusal.NoSecond) = inr (inr (inl refl))
+read-fault-comes (Some (refusal.Second why)) = inr (inr (inl refl))
+read-fault-comes (Some (refusal.SecondDevice name)) = inr (inr (inl refl))
+read-fault-comes (Some (refusal.Differ number)) = inr (inr (inl refl))
 read-fault-comes (Some refusal.WriteFault) = inr (inr (inl refl))
 read-fault-comes (Some refusal.NoMemory) = inr (inr (inl refl))
 
@@ -180,6 +188,10 @@ no-memory-comes (Some (refusal.Abend abend)) = inr (inr (inr (inl refl)))
 no-memory-comes (Some (refusal.Budget most)) = inr (inr (inr (inl refl)))
 no-memory-comes (Some (refusal.Device name)) = inr (inr (inr (inl refl)))
 no-memory-comes (Some refusal.ReadFault) = inr (inr (inr (inl refl)))
+no-memory-comes (Some refusal.NoSecond) = inr (inr (inr (inl refl)))
+no-memory-comes (Some (refusal.Second why)) = inr (inr (inr (inl refl)))
+no-memory-comes (Some (refusal.SecondDevice name)) = inr (inr (inr (inl refl)))
+no-memory-comes (Some (refusal.Differ number)) = inr (inr (inr (inl refl)))
 no-memory-comes (Some refusal.WriteFault) = inr (inr (inr (inl refl)))
 no-memory-comes (Some refusal.NoMemory) = inl refl
 
@@ -193,6 +205,10 @@ write-fault-comes steps bytes program (Some (refusal.Abend abend)) reads h = inr
 write-fault-comes steps bytes program (Some (refusal.Budget most)) reads h = inr (inl refl)
 write-fault-comes steps bytes program (Some (refusal.Device name)) reads h = absurd h
 write-fault-comes steps bytes program (Some refusal.ReadFault) reads h = absurd h
+write-fault-comes steps bytes program (Some refusal.NoSecond) reads h = absurd h
+write-fault-comes steps bytes program (Some (refusal.Second why)) reads h = absurd h
+write-fault-comes steps bytes program (Some (refusal.SecondDevice name)) reads h = absurd h
+write-fault-comes steps bytes program (Some (refusal.Differ number)) reads h = absurd h
 write-fault-comes steps bytes program (Some refusal.WriteFault) reads h = absurd h
 write-fault-comes steps bytes program (Some refusal.NoMemory) reads h = absurd h
 

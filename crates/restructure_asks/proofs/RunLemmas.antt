@@ -79,6 +79,10 @@ told-refusal (refusal.Abend abend) notes answer other g = g
 told-refusal (refusal.Budget most) notes answer other g = g
 told-refusal (refusal.Device name) notes answer other g = g
 told-refusal refusal.ReadFault notes answer other g = g
+told-refusal refusal.NoSecond notes answer other g = g
+told-refusal (refusal.Second why) notes answer other g = g
+told-refusal (refusal.SecondDevice name) notes answer other g = g
+told-refusal (refusal.Differ number) notes answer other g = g
 told-refusal refusal.WriteFault notes answer other g = absurd (other refl)
 told-refusal refusal.NoMemory notes answer other g = g
 

@@ -9,7 +9,7 @@ use Rattle.restructure_core.specs.declared.fault.Refused.TheVariants as refused
 use Rattle.restructure_core.specs.declared.pipeline.Done.{Done}
 use Rattle.restructure_core.specs.Pipeline.{IsRestructured, IsReported, HasCause}
 use Rattle.restructure_asks.specs.declared.ask.Ask.{Ask}
-use Rattle.restructure_asks.specs.declared.ask.Ask.TheVariants.{Restructure, Report, Check, Run, Generate, Trial}
+use Rattle.restructure_asks.specs.declared.ask.Ask.TheVariants.{Restructure, Report, Check, Run, Compare, Generate, Trial}
 use Rattle.restructure_asks.specs.declared.texts.Texts.{Texts}
 use Rattle.restructure_asks.specs.declared.refusal.Refusal.{Refusal}
 use Rattle.restructure_asks.specs.declared.refusal.Refusal.TheVariants as refusal
@@ -71,13 +71,14 @@ IsOfGenerate n (Ok texts) = texts ≡ text_alone (program_text n)
 IsOfGenerate n (Err refusal) = ⊥
 
 -- what is due to each ask for a text. A trial is a check of what is written of the program. What
--- is due to run a source, specs/Running.antt says.
+-- is due to run a source, specs/Running.antt says, and to compare two, specs/Comparing.antt.
 abbrev pub IsDue : Option Ask → List ℕ → Answer → Type 0
 IsDue None bytes answer = IsUnasked answer
 IsDue (Some Restructure) bytes answer = IsOfRestructure bytes answer
 IsDue (Some Report) bytes answer = IsOfReport bytes answer
 IsDue (Some Check) bytes answer = IsOfCheck bytes answer
 IsDue (Some (Run steps)) bytes answer = ⊥
+IsDue (Some (Compare steps)) bytes answer = ⊥
 IsDue (Some (Generate n)) bytes answer = IsOfGenerate n answer
 IsDue (Some (Trial n)) bytes answer = IsOfCheck (program_text n) answer
 

@@ -4,7 +4,7 @@ use Rattle.std.specs.Str.{bytes_eq}
 use Rattle.cob_tree.specs.Digits.{digits_value}
 use Rattle.cob_base.specs.Limit.{max_source}
 use Rattle.restructure_asks.specs.declared.ask.Ask.{Ask}
-use Rattle.restructure_asks.specs.declared.ask.Ask.TheVariants.{Restructure, Report, Check, Run, Generate, Trial}
+use Rattle.restructure_asks.specs.declared.ask.Ask.TheVariants.{Restructure, Report, Check, Run, Compare, Generate, Trial}
 
 -- the number that 1 to 18 digits spell
 abbrev pub number_of : List ℕ → Option ℕ
@@ -50,19 +50,28 @@ ask_of_two word other =
     else if bytes_eq word (codes "trial") then trial_of other
     else None
 
--- the ask of three words: run --steps and a number
-abbrev pub run_of : (word option number : List ℕ) → Option Ask
-run_of word option number =
-    if bytes_eq word (codes "run")
-    then (if bytes_eq option (codes "--steps")
-    then option_map (λ steps. Run steps) (number_of number) else None) else None
+-- the ask to run a source for so many steps
+abbrev pub run_of : List ℕ → Option Ask
+run_of number = option_map (λ steps. Run steps) (number_of number)
+
+-- the ask to compare two programs within so many steps
+abbrev pub compare_of : List ℕ → Option Ask
+compare_of number = option_map (λ steps. Compare steps) (number_of number)
+
+-- the ask of three words: run or compare, --steps and a number
+abbrev pub steps_of : (word option number : List ℕ) → Option Ask
+steps_of word option number =
+    if bytes_eq option (codes "--steps")
+    then (if bytes_eq word (codes "run") then run_of number
+    else if bytes_eq word (codes "compare") then compare_of number
+    else None) else None
 
 -- the ask of the words, where they are one
 abbrev pub ask_of : List (List ℕ) → Option Ask
 ask_of [] = None
 ask_of (word ∷ []) = ask_of_word word
 ask_of (word ∷ other ∷ []) = ask_of_two word other
-ask_of (word ∷ option ∷ number ∷ []) = run_of word option number
+ask_of (word ∷ option ∷ number ∷ []) = steps_of word option number
 ask_of (first ∷ second ∷ third ∷ fourth ∷ others) = None
 
 -- a program is generated for the number
@@ -78,10 +87,16 @@ HasProgram (Generate n) = IsProgramNumber n
 HasProgram (Trial n) = IsProgramNumber n
 HasProgram other = Unit {0}
 
--- whether the ask is to run a source
-abbrev pub is_run : Option Ask → Bool
-is_run (Some (Run steps)) = true
-is_run _ = false
+-- whether the ask runs a program over the bench
+abbrev pub uses_bench : Option Ask → Bool
+uses_bench (Some (Run steps)) = true
+uses_bench (Some (Compare steps)) = true
+uses_bench _ = false
+
+-- whether the ask runs a program over the second bench
+abbrev pub uses_second : Option Ask → Bool
+uses_second (Some (Compare steps)) = true
+uses_second _ = false
 
 -- how many bytes of the source are read: to its end, or to the first byte past the limit
 abbrev pub reads : Option Ask → ℕ
@@ -90,5 +105,6 @@ reads (Some Restructure) = max_source + 1
 reads (Some Report) = max_source + 1
 reads (Some Check) = max_source + 1
 reads (Some (Run steps)) = max_source + 1
+reads (Some (Compare steps)) = max_source + 1
 reads (Some (Generate n)) = 0
 reads (Some (Trial n)) = 0

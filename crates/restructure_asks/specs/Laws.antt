@@ -16,7 +16,7 @@ use Rattle.restructure_core.specs.declared.fault.Refused.TheVariants as refused
 use Rattle.restructure_core.specs.Pipeline.{IsRestructurable, IsFaultySource, IsResultText}
 use Rattle.restructure_core.specs.run.Bench.{BenchCall, StaysAsWas, devices_after, devices_before}
 use Rattle.restructure_asks.specs.declared.ask.Ask.{Ask}
-use Rattle.restructure_asks.specs.declared.ask.Ask.TheVariants.{Restructure, Report, Check, Run, Generate, Trial}
+use Rattle.restructure_asks.specs.declared.ask.Ask.TheVariants.{Restructure, Report, Check, Run, Compare, Generate, Trial}
 use Rattle.restructure_asks.specs.declared.refusal.Refusal.{Refusal}
 use Rattle.restructure_asks.specs.declared.refusal.Refusal.TheVariants as refusal
 use Rattle.restructure_asks.specs.declared.status.Status.{Status}
@@ -27,7 +27,11 @@ use Rattle.restructure_asks.specs.Status.{IsOneOf}
 use Rattle.restructure_asks.specs.Refusal.{line_of, refused_status, status_of}
 use Rattle.restructure_asks.specs.Answer.{Answer, IsDue}
 use Rattle.restructure_asks.specs.Running.{IsRunDue, IsRunDueOnFiles}
-use Rattle.restructure_asks.specs.Tool.{Ends, EndsWithFiles}
+use Rattle.restructure_asks.specs.Comparing.{HaveAnswer, IsComparisonDue, of_pair, same_line}
+use Rattle.restructure_asks.specs.Tool.{Ends, EndsCompared, EndsWithFiles}
+use Rattle.source_pairs.specs.declared.pair.PairRefusal.{PairRefusal}
+use Rattle.source_pairs.specs.Pair.{HasPairCause, ReadsTwo}
+use Rattle.trace_compare.specs.declared.compared.Compared.TheVariants as compared
 use Rattle.cob_base.specs.giving.Giving.{Gains, Takes}
 
 -- these are the words of the ask
@@ -37,6 +41,8 @@ AreWordsOf Report words = words ≡ codes "restructure" ∷ codes "--report" ∷
 AreWordsOf Check words = words ≡ codes "check" ∷ []
 AreWordsOf (Run steps) words = (number : List ℕ) ×
     (words ≡ codes "run" ∷ codes "--steps" ∷ number ∷ []) × (number_of number ≡ Some steps)
+AreWordsOf (Compare steps) words = (number : List ℕ) ×
+    (words ≡ codes "compare" ∷ codes "--steps" ∷ number ∷ []) × (number_of number ≡ Some steps)
 AreWordsOf (Generate n) words = (number : List ℕ) ×
     (words ≡ codes "generate" ∷ number ∷ []) × (program_number number ≡ Some n)
 AreWordsOf (Trial n) words = (number : List ℕ) ×
@@ -190,6 +196,59 @@ BenchIsLeft =
     (steps : ℕ) (source : SourceCall) (out notes : SinkCall) (bench : BenchCall)
     (answer : Status) → EndsWithFiles (Some (Run steps)) source out notes bench answer →
     StaysAsWas bench ⊎ LeavesBench source notes bench answer
+
+-- no two answers are due to bytes that are to be compared, files and a number of steps
+abbrev pub OneComparisonIsDue : Type 0
+OneComparisonIsDue =
+    (steps : ℕ) (bytes : List ℕ) (files others : Files) (one other : Answer) →
+    IsComparisonDue steps bytes files others one → IsComparisonDue steps bytes files others other →
+    one ≡ other
+
+-- the devices of both benches that the two programs use told these files
+abbrev pub BothTell : List ℕ → (bench second : BenchCall) → (files others : Files) → Type 0
+BothTell bytes bench second files others =
+    (p q : Program) → ReadsTwo bytes p q →
+    TellFiles p (devices_before bench) files × TellFiles q (devices_before second) others
+
+-- where a source tells its bytes, and the devices that the two programs use their files, a call to
+-- compare them ends with the answer that is due, or with a fault of the outside or out of memory
+abbrev pub DueComparisonComes : Type 0
+DueComparisonComes =
+    (steps : ℕ) (source : SourceCall) (out notes : SinkCall) (bench second : BenchCall)
+    (end : Status) → EndsCompared (Some (Compare steps)) source out notes bench second end →
+    (bytes : List ℕ) (files others : Files) (due : Answer) → source.told ≡ Some bytes →
+    BothTell bytes bench second files others → IsComparisonDue steps bytes files others due →
+    IsOneOf (status.DeviceFault ∷ statuses_of due) end
+
+-- what each status tells of two programs that were compared: the line that went out or to the notes
+-- is true of their runs; or why they weren't compared
+abbrev pub TellsCompared : ℕ → List ℕ → (files others : Files) → (out notes : SinkCall) → Status →
+    Type 0
+TellsCompared steps bytes files others out notes status.Done = (count : ℕ)
+    × HaveAnswer bytes steps files others (compared.Same count) × Gains (same_line count) out
+TellsCompared steps bytes files others out notes status.Differ = (number : ℕ)
+    × HaveAnswer bytes steps files others (compared.Differ number)
+    × Takes (line_of (refusal.Differ number)) notes
+TellsCompared steps bytes files others out notes status.Budget =
+    HaveAnswer bytes steps files others compared.Budget
+    × Takes (line_of (refusal.Budget steps)) notes
+TellsCompared steps bytes files others out notes status.NotSubset =
+    (why : PairRefusal) × HasPairCause bytes why × Takes (line_of (of_pair why)) notes
+TellsCompared steps bytes files others out notes status.Limit =
+    (why : PairRefusal) × HasPairCause bytes why × Takes (line_of (of_pair why)) notes
+TellsCompared steps bytes files others out notes status.Usage = ⊥
+TellsCompared steps bytes files others out notes status.Flow = ⊥
+TellsCompared steps bytes files others out notes status.Abend = ⊥
+TellsCompared steps bytes files others out notes _ = Unit {0}
+
+-- so it is where the source tells its bytes and the devices that the two programs use their files
+abbrev pub ComparisonsTell : Type 0
+ComparisonsTell =
+    (steps : ℕ) (source : SourceCall) (out notes : SinkCall) (bench second : BenchCall)
+    (end : Status) → EndsCompared (Some (Compare steps)) source out notes bench second end →
+    (bytes : List ℕ) (files others : Files) → source.told ≡ Some bytes →
+    BothTell bytes bench second files others →
+    TellsCompared steps bytes files others out notes end
 
 -- a call without an ask ends with USAGE or out of memory
 abbrev pub UsageComes : Type 0

@@ -15,6 +15,8 @@ pub mod Reading
 pub mod Writing
 -- how a call that runs a source ends
 pub mod Running
+-- how a call that compares two programs ends
+pub mod Comparing
 -- how a call of the top call ends
 pub mod Tool
 -- how a call of the program ends

@@ -37,6 +37,10 @@ status_of (refusal.Fault program fault) = status.Flow
 status_of (refusal.Abend abend) = status.Abend
 status_of (refusal.Budget steps) = status.Budget
 status_of (refusal.Device name) = status.DeviceFault
+status_of refusal.NoSecond = status.NotSubset
+status_of (refusal.Second refused) = refused_status refused
+status_of (refusal.SecondDevice name) = status.DeviceFault
+status_of (refusal.Differ number) = status.Differ
 status_of refusal.ReadFault = status.ReadFault
 status_of refusal.WriteFault = status.WriteFault
 status_of refusal.NoMemory = status.NoMemory
@@ -62,6 +66,14 @@ abend_text (abends.Io status) = codes "ABEND IO " ++ decimal status
 abbrev pub device_text : List ℕ → List ℕ
 device_text name = codes "DEVICE FAULT " ++ name
 
+-- the lines of a second program that is refused
+abbrev pub second_text : Refused → List ℕ
+second_text refused = codes "SECOND " ++ refused_text refused
+
+-- the line of a device on the second bench that failed
+abbrev pub second_device_text : List ℕ → List ℕ
+second_device_text name = codes "DEVICE FAULT SECOND " ++ name
+
 -- the lines of a refusal
 abbrev pub refusal_text : Refusal → List ℕ
 refusal_text refusal.Usage = codes "USAGE"
@@ -70,6 +82,10 @@ refusal_text (refusal.Fault program fault) = fault_text program.paragraphs fault
 refusal_text (refusal.Abend abend) = abend_text abend
 refusal_text (refusal.Budget steps) = codes "BUDGET " ++ decimal steps
 refusal_text (refusal.Device name) = device_text name
+refusal_text refusal.NoSecond = codes "NOT SUBSET NO-SECOND LINE 1"
+refusal_text (refusal.Second refused) = second_text refused
+refusal_text (refusal.SecondDevice name) = second_device_text name
+refusal_text (refusal.Differ number) = codes "DIFFER AT " ++ decimal number
 refusal_text refusal.ReadFault = codes "READ FAULT"
 refusal_text refusal.WriteFault = codes "WRITE FAULT"
 refusal_text refusal.NoMemory = codes "NO MEMORY"

@@ -173,11 +173,15 @@ EndsOfRunWithFiles steps source out notes bench answer =
     IsRunWithFiles steps source out notes bench answer
     ⊎ IsUnrun source out notes answer × StaysAsWas bench
 
--- a device failed and is gone from the bench, and its name was noted
-pub record IsDeviceTold (notes : SinkCall) (bench : BenchCall) : Type 0 where
+-- a device failed and is gone from the bench, and its name was noted in the line of such a refusal
+pub record IsToldBy (tells : List ℕ → Refusal) (notes : SinkCall) (bench : BenchCall) : Type 0 where
   -- the name of the device
   pub name : List ℕ
   -- the first device of that name failed
   pub fell : FellNamed name bench.left bench.left_now bench.old bench.new
   -- its name went to the notes
-  pub noted : Takes (line_of (refusals.Device name)) notes
+  pub noted : Takes (line_of (tells name)) notes
+
+-- a device of the bench failed, and its name was noted
+abbrev pub IsDeviceTold : SinkCall → BenchCall → Type 0
+IsDeviceTold notes bench = IsToldBy (λ name. refusals.Device name) notes bench

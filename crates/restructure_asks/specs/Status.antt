@@ -16,6 +16,7 @@ status_number status.DeviceFault = 7
 status_number status.Abend = 8
 status_number status.Budget = 9
 status_number status.NoMemory = 10
+status_number status.Differ = 11
 
 -- the status is one of these
 abbrev pub IsOneOf : List Status → Status → Type 0

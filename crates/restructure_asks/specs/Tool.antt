@@ -1,10 +1,10 @@
 -- How a call of the top call ends: the answer that is due was given, or why it wasn't.
-use Rattle.std.specs.Prelude.{ℕ, ◌≡◌, List, Option, Some, None, Ok, Err}
+use Rattle.std.specs.Prelude.{ℕ, ◌≡◌, ◌⊎◌, List, Option, Some, None, Ok, Err}
 use Rattle.cob_base.specs.Source.{SourceCall}
 use Rattle.cob_base.specs.Sink.{SinkCall}
 use Rattle.restructure_core.specs.run.Bench.{BenchCall}
 use Rattle.restructure_asks.specs.declared.ask.Ask.{Ask}
-use Rattle.restructure_asks.specs.declared.ask.Ask.TheVariants.{Restructure, Report, Check, Run, Generate, Trial}
+use Rattle.restructure_asks.specs.declared.ask.Ask.TheVariants.{Restructure, Report, Check, Run, Compare, Generate, Trial}
 use Rattle.restructure_asks.specs.declared.texts.Texts.{Texts}
 use Rattle.restructure_asks.specs.declared.refusal.Refusal.{Refusal}
 use Rattle.restructure_asks.specs.declared.refusal.Refusal.TheVariants as refusal
@@ -13,7 +13,8 @@ use Rattle.restructure_asks.specs.declared.status.Status.TheVariants as status
 use Rattle.restructure_asks.specs.Ask.{reads}
 use Rattle.restructure_asks.specs.Answer.{IsAnswered}
 use Rattle.restructure_asks.specs.Reading.{IsReadWithin, IsReadFault}
-use Rattle.restructure_asks.specs.Running.{EndsOfRun, EndsOfRunWithFiles}
+use Rattle.restructure_asks.specs.Comparing.{EndsOfComparing, IsSecondDeviceTold}
+use Rattle.restructure_asks.specs.Running.{EndsOfRun, EndsOfRunWithFiles, IsDeviceTold}
 use Rattle.restructure_asks.specs.Refusal.{line_of, status_of}
 use Rattle.cob_base.specs.giving.Giving.{Gains, Takes, Keeps}
 use Rattle.restructure_asks.specs.Writing.{GainsReport, NotesNoMemory, IsWriteFault}
@@ -77,8 +78,9 @@ EndsOfText ask source out notes status.DeviceFault = ⊥
 EndsOfText ask source out notes status.Abend = ⊥
 EndsOfText ask source out notes status.Budget = ⊥
 EndsOfText ask source out notes status.NoMemory = IsStarved ask source out notes
+EndsOfText ask source out notes status.Differ = ⊥
 
--- how a call ends, by its ask
+-- how a call ends, by its ask; how one that compares two programs does, `EndsCompared` says
 abbrev pub Ends : Option Ask → SourceCall → SinkCall → SinkCall → Status → Type 0
 Ends None source out notes answer = EndsOfText None source out notes answer
 Ends (Some Restructure) source out notes answer =
@@ -86,17 +88,29 @@ Ends (Some Restructure) source out notes answer =
 Ends (Some Report) source out notes answer = EndsOfText (Some Report) source out notes answer
 Ends (Some Check) source out notes answer = EndsOfText (Some Check) source out notes answer
 Ends (Some (Run steps)) source out notes answer = EndsOfRun steps source out notes answer
+Ends (Some (Compare steps)) source out notes answer = Unit {0}
 Ends (Some (Generate n)) source out notes answer =
     EndsOfText (Some (Generate n)) source out notes answer
 Ends (Some (Trial n)) source out notes answer =
     EndsOfText (Some (Trial n)) source out notes answer
 
--- how a call ends over the devices of a bench, by its ask: only a run asks them
+-- how a call that runs a source ends over the devices of a bench
 abbrev pub EndsWithFiles : Option Ask → SourceCall → SinkCall → SinkCall → BenchCall → Status →
     Type 0
 EndsWithFiles (Some (Run steps)) source out notes bench answer =
     EndsOfRunWithFiles steps source out notes bench answer
 EndsWithFiles _ source out notes bench answer = Unit {0}
+
+-- how a call that compares two programs ends over both benches
+abbrev pub EndsCompared : Option Ask → SourceCall → SinkCall → SinkCall → (bench second : BenchCall) →
+    Status → Type 0
+EndsCompared (Some (Compare steps)) source out notes bench second answer =
+    EndsOfComparing steps source out notes bench second answer
+EndsCompared _ source out notes bench second answer = Unit {0}
+
+-- a device of one of both benches failed and is off its bench, and the notes got its name
+abbrev pub IsEitherTold : SinkCall → (bench second : BenchCall) → Type 0
+IsEitherTold notes bench second = IsDeviceTold notes bench ⊎ IsSecondDeviceTold notes second
 
 -- how a call ends that leaves the source as it was, whatever the source
 abbrev pub EndsUnread : Option Ask → SinkCall → SinkCall → Status → Type 0

@@ -17,6 +17,8 @@ pub enum Ask {
     Check,
     /// To read the source to its end, and to run it for at most so many steps.
     Run(u64),
+    /// To read the source to its end, as two programs, and to run both for at most so many steps.
+    Compare(u64),
     /// To write the generated program of a number.
     Generate(u32),
     /// To write the report of that program.
@@ -31,7 +33,7 @@ pub fn ask_of(words: &[String]) -> Option<Ask>
     match words {
         [word] => ask_of_word(word.as_str()),
         [word, other] => ask_of_two(word.as_str(), other.as_str()),
-        [word, option, number] => run_of(word.as_str(), option.as_str(), number.as_str()),
+        [word, option, number] => steps_of(word.as_str(), option.as_str(), number.as_str()),
         _ => None,
     }
 }
@@ -100,19 +102,39 @@ fn trial_of(number: &str) -> Option<Ask>
 }
 
 // What three words ask.
-fn run_of(word: &str, option: &str, number: &str) -> Option<Ask>
-    ensures asked { result ≡ run_of word.now option.now number.now }
+fn steps_of(word: &str, option: &str, number: &str) -> Option<Ask>
+    ensures asked { result ≡ asks.steps_of word.now option.now number.now }
     ensures program { IfSome result (λ ask. HasProgram ask) }
 {
-    if word != "run" {
-        return None;
-    }
     if option != "--steps" {
         return None;
     }
+    if word == "run" {
+        return run_of(number);
+    }
+    if word == "compare" {
+        return compare_of(number);
+    }
+    None
+}
+
+fn run_of(number: &str) -> Option<Ask>
+    ensures asked { result ≡ run_of number.now }
+    ensures program { IfSome result (λ ask. HasProgram ask) }
+{
     match number_of(number.as_bytes()) {
         None => None,
         Some(steps) => Some(Ask::Run(steps)),
+    }
+}
+
+fn compare_of(number: &str) -> Option<Ask>
+    ensures asked { result ≡ asks.compare_of number.now }
+    ensures program { IfSome result (λ ask. HasProgram ask) }
+{
+    match number_of(number.as_bytes()) {
+        None => None,
+        Some(steps) => Some(Ask::Compare(steps)),
     }
 }
 

@@ -5,8 +5,7 @@ ghost use Rattle.cob_base.specs.Source.{source_call};
 ghost use Rattle.cob_base.specs.Sink.{sink_call};
 ghost use Rattle.restructure_core.specs.run.Bench.{bench_call};
 ghost use Rattle.restructure_asks.specs.Ask.{ask_of};
-ghost use Rattle.restructure_asks.specs.Running.{IsDeviceTold};
-ghost use Rattle.restructure_asks.specs.Tool.{Ends, EndsWithFiles};
+ghost use Rattle.restructure_asks.specs.Tool.{Ends, EndsCompared, EndsWithFiles, IsEitherTold};
 ghost use Rattle.restructure_asks.specs.Program.{is_page, is_page_word, ShowsPage};
 
 use crate::refusal::Refusal;
@@ -14,16 +13,16 @@ use crate::status::Status;
 use crate::tool;
 use crate::writing::{note, write_text};
 use cob_base::{NoMemory, Sink, Source};
-use file_model::operations::Watched;
-use file_model::{Bench, Device};
+use file_model::Bench;
+use file_model::operations::Shown;
 use std::alloc::Global;
 
 const HELP: &str = "\
 usage: restructure_tool restructure [--report] < SOURCE > RESULT
        restructure_tool check < SOURCE > REPORT
        restructure_tool run --steps N < SOURCE > DISPLAYED
-       restructure_tool generate N > SOURCE
-       restructure_tool trial N > REPORT
+       restructure_tool compare --steps N < BOTH-SOURCES
+       restructure_tool generate N > SOURCE, or trial N > REPORT
 
 Tumgaiba rewrites a COBOL-85 program, full of GO TO, as a structured program
 that behaves the same. Where it can't, standard error has a line that says why.
@@ -33,10 +32,12 @@ restructure   write the structured program; with --report standard error then
 check         write that report alone
 run           run the program for at most N steps; its files are those of the
               current folder, and NULL:NAME is a file that is always empty
+compare       run two programs, cut at a line ======, the second in the folder
+              second, and tell whether or where they differ
 generate      write the program number N of 1 to 1249; trial tells its report
 
 Exit statuses: 0 done, 1 USAGE, 2 NOT SUBSET, 3 FLOW, 4 LIMIT, 5 READ FAULT,
-6 WRITE FAULT, 7 DEVICE FAULT, 8 ABEND, 9 BUDGET, 10 NO MEMORY.
+6 WRITE FAULT, 7 DEVICE FAULT, 8 ABEND, 9 BUDGET, 10 NO MEMORY, 11 DIFFER.
 
 Example: restructure_tool restructure < OLD.cob > NEW.cob
 The manual is docs/USING.md.
@@ -46,8 +47,8 @@ const VERSION: &str = "Tumgaiba 0.1.0 (restructure_tool)
 proved with rattle-kit-13f logic dac8208d650f15bf
 ";
 
-/// Does what the command line asks, over any source, sinks and bench: `--help` and `--version` show
-/// a page, and other words are those of `tool`.
+/// Does what the command line asks, over any source, sinks and benches: `--help` and `--version`
+/// show a page, and other words are those of `tool`.
 pub fn program<S: Source, K: Sink, N: Sink>(
     alloc: Global,
     words: Result<Vec<String>, NoMemory>,
@@ -55,6 +56,7 @@ pub fn program<S: Source, K: Sink, N: Sink>(
     out: &mut K,
     notes: &mut N,
     bench: &mut Bench,
+    second: &mut Bench,
 ) -> Status
     ensures page { IfOk words (λ words. is_page (map string_bytes words.items) ≡ true →
         ShowsPage (source_call S.left S.faults source.old source.new)
@@ -70,10 +72,17 @@ pub fn program<S: Source, K: Sink, N: Sink>(
         (source_call S.left S.faults source.old source.new)
         (sink_call K.held K.faults out.old out.new)
         (sink_call N.held N.faults notes.old notes.new)
-        (bench_call ⟦<Box<dyn Device> as Watched>⟧.seen bench.old bench.new) result) }
-    ensures devices { result ≡ Status.DeviceFault → IsDeviceTold
+        (bench_call ⟦<Bench as Shown>⟧.all bench.old bench.new) result) }
+    ensures compared { IfOk words (λ words. is_page (map string_bytes words.items) ≡ false →
+        EndsCompared (ask_of (map string_bytes words.items))
+        (source_call S.left S.faults source.old source.new)
+        (sink_call K.held K.faults out.old out.new) (sink_call N.held N.faults notes.old notes.new)
+        (bench_call ⟦<Bench as Shown>⟧.all bench.old bench.new)
+        (bench_call ⟦<Bench as Shown>⟧.all second.old second.new) result) }
+    ensures devices { result ≡ Status.DeviceFault → IsEitherTold
         (sink_call N.held N.faults notes.old notes.new)
-        (bench_call ⟦<Box<dyn Device> as Watched>⟧.seen bench.old bench.new) }
+        (bench_call ⟦<Bench as Shown>⟧.all bench.old bench.new)
+        (bench_call ⟦<Bench as Shown>⟧.all second.old second.new) }
 
     // where memory ran out for the words
     ensures wordless { OnErr words (result ≡ Status.NoMemory) }
@@ -82,7 +91,7 @@ pub fn program<S: Source, K: Sink, N: Sink>(
         (sink_call N.held N.faults notes.old notes.new) result) }
 {
     match words {
-        Ok(words) => serve(alloc, words.as_slice(), source, out, notes, bench),
+        Ok(words) => serve(alloc, words.as_slice(), source, out, notes, bench, second),
         Err(NoMemory) => note(alloc, &Refusal::NoMemory, notes),
     }
 }
@@ -95,6 +104,7 @@ fn serve<S: Source, K: Sink, N: Sink>(
     out: &mut K,
     notes: &mut N,
     bench: &mut Bench,
+    second: &mut Bench,
 ) -> Status
     ensures page { is_page (map string_bytes words.now) ≡ true →
         ShowsPage (source_call S.left S.faults source.old source.new)
@@ -110,14 +120,21 @@ fn serve<S: Source, K: Sink, N: Sink>(
         (source_call S.left S.faults source.old source.new)
         (sink_call K.held K.faults out.old out.new)
         (sink_call N.held N.faults notes.old notes.new)
-        (bench_call ⟦<Box<dyn Device> as Watched>⟧.seen bench.old bench.new) result }
-    ensures devices { result ≡ Status.DeviceFault → IsDeviceTold
+        (bench_call ⟦<Bench as Shown>⟧.all bench.old bench.new) result }
+    ensures compared { is_page (map string_bytes words.now) ≡ false →
+        EndsCompared (ask_of (map string_bytes words.now))
+        (source_call S.left S.faults source.old source.new)
+        (sink_call K.held K.faults out.old out.new) (sink_call N.held N.faults notes.old notes.new)
+        (bench_call ⟦<Bench as Shown>⟧.all bench.old bench.new)
+        (bench_call ⟦<Bench as Shown>⟧.all second.old second.new) result }
+    ensures devices { result ≡ Status.DeviceFault → IsEitherTold
         (sink_call N.held N.faults notes.old notes.new)
-        (bench_call ⟦<Box<dyn Device> as Watched>⟧.seen bench.old bench.new) }
+        (bench_call ⟦<Bench as Shown>⟧.all bench.old bench.new)
+        (bench_call ⟦<Bench as Shown>⟧.all second.old second.new) }
 {
     match page_of(words) {
         Some(page) => write_text(alloc, page.as_bytes(), out, notes),
-        None => tool(alloc, words, source, out, notes, bench),
+        None => tool(alloc, words, source, out, notes, bench, second),
     }
 }
 

@@ -1,6 +1,6 @@
 //! What follows from how a call ends.
 
-ghost use Rattle.restructure_asks.specs.Laws.{WordsAreOfTheirAsk, OneAnswerIsDue, DueAnswerComes, AcceptedSourceIsDone, FaultySourceIsRefused, RefusedForFlowIsFaulty, OneRunIsDue, DueRunComes, OneRunIsDueOnFiles, DueRunComesOnFiles, BenchIsLeft, UsageComes, GeneratedComes, ResultComesAgain, WithinLimitAllIsRead};
+ghost use Rattle.restructure_asks.specs.Laws.{WordsAreOfTheirAsk, OneAnswerIsDue, DueAnswerComes, AcceptedSourceIsDone, FaultySourceIsRefused, RefusedForFlowIsFaulty, OneRunIsDue, DueRunComes, OneRunIsDueOnFiles, DueRunComesOnFiles, BenchIsLeft, UsageComes, GeneratedComes, OneComparisonIsDue, DueComparisonComes, ComparisonsTell, ResultComesAgain, WithinLimitAllIsRead};
 
 use fixed_point_laws::results::results_are_fixed;
 
@@ -36,6 +36,14 @@ pub fn due_run_comes()
     ensures due { DueRunComes }
     ensures one_on_files { OneRunIsDueOnFiles }
     ensures due_on_files { DueRunComesOnFiles }
+{}
+
+/// At most one answer is due to two programs that are compared, and it comes, unless a source, sink
+/// or device fails or memory runs out; so what each status tells of them is true.
+pub fn due_comparison_comes()
+    ensures one { OneComparisonIsDue }
+    ensures due { DueComparisonComes }
+    ensures tells { ComparisonsTell }
 {}
 
 /// Whatever the status of a call to run, each device that failed is behind the bench and its count

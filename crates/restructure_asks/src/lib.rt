@@ -4,21 +4,22 @@
 //! contract is the promise of the whole tool (`specs/Tool.antt` is the place to begin). The words
 //! of the command line are defined by `ask_of` in `specs/Ask.antt`, and the lines of a refusal,
 //! with their statuses, by `specs/Refusal.antt` and `specs/Kind.antt`. That an answer comes exactly
-//! where it is due is the law `due_answer_comes`, and for a run `due_run_comes`. Only tested, in
-//! `restructure_tool`: that calls succeed where memory is ample.
+//! where it is due is the law `due_answer_comes`, for a run `due_run_comes`, and for a comparison
+//! `due_comparison_comes`. Only tested, in `restructure_tool`: that calls succeed where memory is
+//! ample.
 #![tactic(auto)]
 
 ghost use Rattle.std.specs.Prelude.{◌≡◌, false, map, string_bytes};
 ghost use Rattle.cob_base.specs.Source.{source_call};
 ghost use Rattle.cob_base.specs.Sink.{sink_call};
 ghost use Rattle.restructure_core.specs.run.Bench.{bench_call};
-ghost use Rattle.restructure_asks.specs.Ask.{ask_of as asked, is_run, reads};
-ghost use Rattle.restructure_asks.specs.Running.{IsDeviceTold};
-ghost use Rattle.restructure_asks.specs.Tool.{Ends, EndsWithFiles};
+ghost use Rattle.restructure_asks.specs.Ask.{ask_of as asked, reads, uses_bench, uses_second};
+ghost use Rattle.restructure_asks.specs.Tool.{Ends, EndsCompared, EndsWithFiles, IsEitherTold};
 
 mod answer;
 mod ask;
 mod command_line;
+mod compare;
 mod kind;
 mod laws;
 mod made;
@@ -33,11 +34,12 @@ use answer::{answer_check, answer_generate, answer_report, answer_restructure, a
 pub use ask::{Ask, ask_of};
 use cob_base::{Sink, Source};
 pub use command_line::program;
-use file_model::operations::Watched;
-use file_model::{Bench, Device};
+use compare::answer_compare;
+use file_model::Bench;
+use file_model::operations::Shown;
 pub use laws::{
-    due_answer_comes, due_run_comes, one_answer_is_due, runs_leave_their_bench,
-    source_is_read_to_its_end, words_are_of_one_ask,
+    due_answer_comes, due_comparison_comes, due_run_comes, one_answer_is_due,
+    runs_leave_their_bench, source_is_read_to_its_end, words_are_of_one_ask,
 };
 pub use refusal::Refusal;
 use running::answer_run;
@@ -60,6 +62,7 @@ pub fn tool<S: Source, K: Sink, N: Sink>(
     out: &mut K,
     notes: &mut N,
     bench: &mut Bench,
+    second: &mut Bench,
 ) -> Status
     ensures ends { Ends (asked (map string_bytes words.now))
         (source_call S.left S.faults source.old source.new)
@@ -72,18 +75,29 @@ pub fn tool<S: Source, K: Sink, N: Sink>(
         (source_call S.left S.faults source.old source.new)
         (sink_call K.held K.faults out.old out.new)
         (sink_call N.held N.faults notes.old notes.new)
-        (bench_call ⟦<Box<dyn Device> as Watched>⟧.seen bench.old bench.new) result }
+        (bench_call ⟦<Bench as Shown>⟧.all bench.old bench.new) result }
 
-    // a device that is reported as failed did fail, and is off the bench
-    ensures devices { result ≡ Status.DeviceFault → IsDeviceTold
+    // what two programs come to that are compared, and what they leave of both benches
+    ensures compared { EndsCompared (asked (map string_bytes words.now))
+        (source_call S.left S.faults source.old source.new)
+        (sink_call K.held K.faults out.old out.new) (sink_call N.held N.faults notes.old notes.new)
+        (bench_call ⟦<Bench as Shown>⟧.all bench.old bench.new)
+        (bench_call ⟦<Bench as Shown>⟧.all second.old second.new) result }
+
+    // a device that is reported as failed did fail, and is off its bench
+    ensures devices { result ≡ Status.DeviceFault → IsEitherTold
         (sink_call N.held N.faults notes.old notes.new)
-        (bench_call ⟦<Box<dyn Device> as Watched>⟧.seen bench.old bench.new) }
+        (bench_call ⟦<Bench as Shown>⟧.all bench.old bench.new)
+        (bench_call ⟦<Bench as Shown>⟧.all second.old second.new) }
 
     // where nothing is read the source is as it was, also one of which nothing is known
     ensures unread { reads (asked (map string_bytes words.now)) ≡ 0 → source.new ≡ source.old }
 
-    // where nothing is run the bench is as it was
-    ensures unrun { is_run (asked (map string_bytes words.now)) ≡ false → bench.new ≡ bench.old }
+    // where nothing is run the bench is as it was, and where nothing is compared the second one
+    ensures unrun { uses_bench (asked (map string_bytes words.now)) ≡ false →
+        bench.new ≡ bench.old }
+    ensures apart { uses_second (asked (map string_bytes words.now)) ≡ false →
+        second.new ≡ second.old }
 {
     match ask_of(words) {
         None => note(alloc, &Refusal::Usage, notes),
@@ -91,6 +105,9 @@ pub fn tool<S: Source, K: Sink, N: Sink>(
         Some(Ask::Report) => answer_report(alloc, source, out, notes),
         Some(Ask::Check) => answer_check(alloc, source, out, notes),
         Some(Ask::Run(steps)) => answer_run(alloc, steps, source, out, notes, bench),
+        Some(Ask::Compare(steps)) => {
+            answer_compare(alloc, steps, source, out, notes, bench, second)
+        }
         Some(Ask::Generate(n)) => answer_generate(alloc, n, out, notes),
         Some(Ask::Trial(n)) => answer_trial(alloc, n, out, notes),
     }

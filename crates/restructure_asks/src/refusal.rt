@@ -30,6 +30,14 @@ pub enum Refusal {
     Budget(u64),
     /// The device of that name failed.
     Device(Text),
+    /// The source holds one program alone, where two are asked for.
+    NoSecond,
+    /// The second program of the source is refused; never since memory ran out.
+    Second(Refused),
+    /// The device of that name failed, on the bench of the second program.
+    SecondDevice(Text),
+    /// The two programs differ at the event of that number.
+    Differ(u128),
     ReadFault,
     WriteFault,
     NoMemory,
@@ -74,6 +82,10 @@ impl Refusal {
             Refusal::Abend(_) => Status::Abend,
             Refusal::Budget(_) => Status::Budget,
             Refusal::Device(_) => Status::DeviceFault,
+            Refusal::NoSecond => Status::NotSubset,
+            Refusal::Second(refused) => refused_status(refused),
+            Refusal::SecondDevice(_) => Status::DeviceFault,
+            Refusal::Differ(_) => Status::Differ,
             Refusal::ReadFault => Status::ReadFault,
             Refusal::WriteFault => Status::WriteFault,
             Refusal::NoMemory => Status::NoMemory,
@@ -99,8 +111,12 @@ impl Refusal {
                 fault_text(alloc, program.paragraphs.as_slice(), *fault)
             }
             Refusal::Abend(abend) => abend_text(alloc, *abend),
-            Refusal::Budget(steps) => numbered(alloc, b"BUDGET ", *steps),
+            Refusal::Budget(steps) => numbered(alloc, b"BUDGET ", u128::from(*steps)),
             Refusal::Device(name) => device_text(alloc, name.as_slice()),
+            Refusal::NoSecond => told(alloc, b"NOT SUBSET NO-SECOND LINE 1"),
+            Refusal::Second(refused) => second_text(alloc, refused),
+            Refusal::SecondDevice(name) => second_device_text(alloc, name.as_slice()),
+            Refusal::Differ(number) => numbered(alloc, b"DIFFER AT ", *number),
             Refusal::ReadFault => told(alloc, b"READ FAULT"),
             Refusal::WriteFault => told(alloc, b"WRITE FAULT"),
             Refusal::NoMemory => told(alloc, b"NO MEMORY"),
@@ -145,7 +161,7 @@ fn abend_text(alloc: Global, abend: Abend) -> Result<Text, NoMemory>
     match abend {
         Abend::BadDigits => told(alloc, b"ABEND BAD-DIGITS"),
         Abend::OutOfRange => told(alloc, b"ABEND OUT-OF-RANGE"),
-        Abend::Io(status) => numbered(alloc, b"ABEND IO ", u64::from(status)),
+        Abend::Io(status) => numbered(alloc, b"ABEND IO ", u128::from(status)),
     }
 }
 
@@ -157,12 +173,30 @@ fn device_text(alloc: Global, name: &[u8]) -> Result<Text, NoMemory>
     Ok(text)
 }
 
-fn numbered(alloc: Global, words: &[u8], number: u64) -> Result<Text, NoMemory>
+/// Words, and a number after them.
+pub fn numbered(alloc: Global, words: &[u8], number: u128) -> Result<Text, NoMemory>
     ensures { Makes (words.now ++ decimal number) result }
 {
     let mut text = told(alloc, words)?;
     let number = format!(in alloc; "{number}")?;
     text.add(number.as_bytes())?;
+    Ok(text)
+}
+
+fn second_text(alloc: Global, refused: &Refused) -> Result<Text, NoMemory>
+    ensures { Makes (refusals.second_text refused.now) result }
+{
+    let why = refused_text(alloc, refused)?;
+    let mut text = told(alloc, b"SECOND ")?;
+    text.add(why.as_slice())?;
+    Ok(text)
+}
+
+fn second_device_text(alloc: Global, name: &[u8]) -> Result<Text, NoMemory>
+    ensures { Makes (refusals.second_device_text name.now) result }
+{
+    let mut text = told(alloc, b"DEVICE FAULT SECOND ")?;
+    text.add(name)?;
     Ok(text)
 }
 

@@ -15,8 +15,8 @@ use cob_base::{Sink, Source};
 use cob_tree::Program;
 use cobol_read::ReadRefusal;
 use cobol_run::{Ending, Ran};
-use file_model::operations::Watched;
-use file_model::{Bench, Device};
+use file_model::Bench;
+use file_model::operations::Shown;
 use restructure_core::Refused;
 use restructure_core::run::{Came, run_source};
 use std::alloc::Global;
@@ -39,10 +39,10 @@ pub fn answer_run<S: Source, K: Sink, N: Sink>(
         (source_call S.left S.faults source.old source.new)
         (sink_call K.held K.faults out.old out.new)
         (sink_call N.held N.faults notes.old notes.new)
-        (bench_call ⟦<Box<dyn Device> as Watched>⟧.seen bench.old bench.new) result }
+        (bench_call ⟦<Bench as Shown>⟧.all bench.old bench.new) result }
     ensures devices { result ≡ Status.DeviceFault → IsDeviceTold
         (sink_call N.held N.faults notes.old notes.new)
-        (bench_call ⟦<Box<dyn Device> as Watched>⟧.seen bench.old bench.new) }
+        (bench_call ⟦<Bench as Shown>⟧.all bench.old bench.new) }
 {
     match read_source(alloc, source) {
         Err(refusal) => note(alloc, &refusal, notes),

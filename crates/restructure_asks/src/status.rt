@@ -3,7 +3,7 @@
 ghost use Rattle.std.specs.Prelude.{◌≡◌};
 ghost use Rattle.restructure_asks.specs.Status.{status_number};
 
-/// How an ask ended; the numbers, 0 to 10 in this order, are the exit statuses, and don't change.
+/// How an ask ended; the numbers, 0 to 11 in this order, are the exit statuses, and don't change.
 #[derive(Clone, Copy, Debug, PartialEq, Eq)]
 pub enum Status {
     /// The ask was done.
@@ -28,6 +28,8 @@ pub enum Status {
     Budget,
     /// Out of memory.
     NoMemory,
+    /// Two programs that were compared differ.
+    Differ,
 }
 
 impl Status {
@@ -47,6 +49,7 @@ impl Status {
             Status::Abend => 8,
             Status::Budget => 9,
             Status::NoMemory => 10,
+            Status::Differ => 11,
         }
     }
 }

@@ -17,8 +17,8 @@ use cob_base::Sink;
 use cob_tree::Program;
 use cobol_read::{ReadRefusal, read};
 use cobol_run::{Ran, run};
-use file_model::operations::Watched;
-use file_model::{Bench, Device};
+use file_model::Bench;
+use file_model::operations::Shown;
 use std::alloc::Global;
 
 /// What came of a source.
@@ -46,14 +46,14 @@ pub fn run_source<K: Sink>(
     requires within { bench.old.left ≤ vec_len bench.old.devices }
     ensures came { Comes bytes.now steps (sink_call K.held K.faults out.old out.new) result }
     ensures over { ComesOver bytes.now steps (sink_call K.held K.faults out.old out.new)
-        (bench_call ⟦<Box<dyn Device> as Watched>⟧.seen bench.old bench.new) result }
+        (bench_call ⟦<Bench as Shown>⟧.all bench.old bench.new) result }
 
     // a structured program's run is what its nested statements mean
     ensures nested { CameNested (sink_call K.held K.faults out.old out.new)
-        (bench_call ⟦<Box<dyn Device> as Watched>⟧.seen bench.old bench.new) result }
+        (bench_call ⟦<Bench as Shown>⟧.all bench.old bench.new) result }
     ensures cause { IsWriteFault result → Rose (K.faults out.old) (K.faults out.new) }
     ensures falls { CameFalls result
-        (bench_call ⟦<Box<dyn Device> as Watched>⟧.seen bench.old bench.new) }
+        (bench_call ⟦<Bench as Shown>⟧.all bench.old bench.new) }
 {
     match read(alloc, bytes) {
         Err(ReadRefusal::NoMemory) => Came::NoMemory,
@@ -71,10 +71,10 @@ fn run_program<K: Sink>(
 ) -> Came
     ensures came { CameOf program steps (sink_call K.held K.faults out.old out.new) result }
     ensures over { CameOver program steps (sink_call K.held K.faults out.old out.new)
-        (bench_call ⟦<Box<dyn Device> as Watched>⟧.seen bench.old bench.new) result }
+        (bench_call ⟦<Bench as Shown>⟧.all bench.old bench.new) result }
     ensures cause { IsWriteFault result → Rose (K.faults out.old) (K.faults out.new) }
     ensures falls { CameFalls result
-        (bench_call ⟦<Box<dyn Device> as Watched>⟧.seen bench.old bench.new) }
+        (bench_call ⟦<Bench as Shown>⟧.all bench.old bench.new) }
 {
     let ran = run(alloc, &program, bench, out, steps);
     Came::Ran(program, ran)

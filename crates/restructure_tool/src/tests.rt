@@ -2,6 +2,7 @@
 
 mod answers;
 mod calls;
+mod comparisons;
 mod devices;
 mod outside;
 mod runs;

@@ -4,15 +4,13 @@
 //! implementor (the USAGE clause): `specs/Binary.antt` and `specs/Packed.antt` are this project's
 //! choice, with a definition for each rule, and the calls give exactly that. `laws` supports these:
 //! what is written reads back, reading is the rule on all bytes, and no two values have the same
-//! bytes. Values and bytes that are known from outside are tested.
+//! bytes. Values and bytes that are known from outside are tests of `front_end_tests`.
 #![tactic(auto)]
 
 mod binary;
 mod item;
 pub mod laws;
 mod packed;
-#[cfg(test)]
-mod tests;
 
 pub use binary::{binary_read, binary_size, binary_write};
 pub use item::count_of_digits;

@@ -26,7 +26,7 @@ use Rattle.trace_compare.specs.declared.compared.Compared.TheVariants as compare
 use Rattle.trace_compare.specs.declared.pair.Pair.{Pair}
 use Rattle.trace_compare.specs.declared.pair.Verdict.{Verdict}
 use Rattle.trace_compare.specs.declared.pair.Verdict.TheVariants as verdict
-use Rattle.trace_compare.specs.declared.side.Side.{Side}
+use Rattle.trace_compare.specs.declared.side.ComparedSide.{ComparedSide}
 use Rattle.trace_compare.specs.Comparing.{Compares, FirstLeaves, FirstNames, IsOf, LeavesSome, SecondLeaves, SecondNames, answered, first_fault, second_fault, unless_failed}
 use Rattle.trace_compare.specs.Pair.{FirstFalls, IsVerdict, SecondFalls, course_in}
 use Rattle.trace_compare.specs.Side.{Reached, StandsAt, files_of, pending_of}
@@ -85,7 +85,7 @@ second_names verdict.NoMemory first second gone names = tt
 -- ---- the files that are left
 
 -- what a side stands over is closed
-module _ (program : Program) (files : Files) (side : Side) (devices : List Seen) (steps : ℕ) (compared : Trace) (stands : StandsAt program files side devices steps compared) (same : files_of side ≡ program.files) where
+module _ (program : Program) (files : Files) (side : ComparedSide) (devices : List Seen) (steps : ℕ) (compared : Trace) (stands : StandsAt program files side devices steps compared) (same : files_of side ≡ program.files) where
   over_here : (ended : Option Ending) → Reached program files side.machine devices stands.done (compared ++ pending_of side) ended → StandsOver side.machine devices (world_after program files stands.done)
   over_here None tracks = subst (StandsOver side.machine devices) (sym (ap (λ (s : State). s.memory.world) tracks.reached)) tracks.stands
   over_here (Some ending) ended = ended.stands

@@ -6,7 +6,7 @@ use Rattle.std.specs.Str.{bytes_eq}
 use Rattle.std.proofs.lemmas.Slice.Eq.{bytes_eq-Decides}
 use Rattle.control_flow_theory.specs.semantics.Outcome.{Event, Trace}
 use Rattle.trace_compare.specs.declared.compared.Compared.TheVariants as compared
-use Rattle.trace_compare.specs.declared.next.Next.TheVariants as next
+use Rattle.trace_compare.specs.declared.next.Decision.TheVariants as next
 use Rattle.trace_compare.specs.Differing.{Way, answer_from, way_eq}
 use Rattle.trace_compare.specs.Next.{IsNext, are_some, front_of, may_step, next_of, settled}
 

@@ -10,8 +10,8 @@ use Rattle.cobol_theory.specs.cobol_meaning.Runs.{Files, source_run}
 use Rattle.cobol_run.specs.declared.machine.Ending.{Ending}
 use Rattle.cobol_run.specs.Falling.{SameBench}
 use Rattle.trace_compare.specs.declared.compared.Compared.TheVariants as compared
-use Rattle.trace_compare.specs.declared.next.Next.{Next}
-use Rattle.trace_compare.specs.declared.next.Next.TheVariants as next
+use Rattle.trace_compare.specs.declared.next.Decision.{Decision}
+use Rattle.trace_compare.specs.declared.next.Decision.TheVariants as next
 use Rattle.trace_compare.specs.declared.pair.Pair.{Pair}
 use Rattle.trace_compare.specs.declared.pair.Turn.{Turn}
 use Rattle.trace_compare.specs.Differing.{DifferAt, IsAnswer, SameWith, Undecided, course_of}
@@ -70,7 +70,7 @@ room_stepped old new room empty same left few =
 -- ---- what is known of both
 
 module _ (p q : Program) (files other_files : Files) (pair : Pair) (devices others : List Seen) (steps : ℕ) (both : BothStand p q files other_files pair devices others steps) where
-  abbrev Right : Next → Type 0
+  abbrev Right : Decision → Type 0
   Right n = IsNext n (pending_of pair.first) (ended_of pair.first) pair.first.left (pending_of pair.second) (ended_of pair.second) pair.second.left
 
   pub knows_same : Right next.Same → IsAnswer (compared.Same pair.same) (course_in p files steps) (course_in q other_files steps)
@@ -110,10 +110,10 @@ module _ (p q : Program) (files other_files : Files) (pair : Pair) (devices othe
 
 -- ---- what is next is right
 
-pub next_is_right : (pair : Pair) (following : Next) → following ≡ next_of (pending_of pair.first) (ended_of pair.first) pair.first.left (pending_of pair.second) (ended_of pair.second) pair.second.left →
+pub next_is_right : (pair : Pair) (following : Decision) → following ≡ next_of (pending_of pair.first) (ended_of pair.first) pair.first.left (pending_of pair.second) (ended_of pair.second) pair.second.left →
     IsNext following (pending_of pair.first) (ended_of pair.first) pair.first.left (pending_of pair.second) (ended_of pair.second) pair.second.left
 next_is_right pair following is =
-    subst (λ (n : Next). IsNext n (pending_of pair.first) (ended_of pair.first) pair.first.left (pending_of pair.second) (ended_of pair.second) pair.second.left) (sym is)
+    subst (λ (n : Decision). IsNext n (pending_of pair.first) (ended_of pair.first) pair.first.left (pending_of pair.second) (ended_of pair.second) pair.second.left) (sym is)
     (next_right (pending_of pair.first) (ended_of pair.first) pair.first.left (pending_of pair.second) (ended_of pair.second) pair.second.left)
 
 pub going_is : (ended : Option Ending) → way_if ended ≡ None → ended ≡ None

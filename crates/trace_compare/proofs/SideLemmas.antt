@@ -29,7 +29,7 @@ use Rattle.cobol_run.specs.declared.machine.StepOutcome.TheVariants as step
 use Rattle.cobol_run.specs.Events.{Ended, Tracks, TracksOn, filed_events, step_events}
 use Rattle.cobol_run.specs.Falling.{StepFalls}
 use Rattle.cobol_run.specs.Points.{world_after}
-use Rattle.trace_compare.specs.declared.side.Side.{Side}
+use Rattle.trace_compare.specs.declared.side.ComparedSide.{ComparedSide}
 use Rattle.trace_compare.specs.declared.side.Advance.{Advance}
 use Rattle.trace_compare.specs.Differing.{course_of}
 use Rattle.trace_compare.specs.Event.{way_if}
@@ -54,7 +54,7 @@ run_covers program files done steps within =
 
 -- ---- where a side stands
 
-module _ (program : Program) (files : Files) (side : Side) (devices : List Seen) (steps : ℕ) (compared : Trace) (stands : StandsAt program files side devices steps compared) where
+module _ (program : Program) (files : Files) (side : ComparedSide) (devices : List Seen) (steps : ℕ) (compared : Trace) (stands : StandsAt program files side devices steps compared) where
   pub within : stands.done ≤ steps
   within = let e = stands.counted in omega (arith, e)
 
@@ -73,7 +73,7 @@ module _ (program : Program) (files : Files) (side : Side) (devices : List Seen)
   covers_here = run_covers program files stands.done steps within
 
   -- events are taken as compared
-  pub skipped : (new : Side) (count : ℕ) → new.left ≡ side.left → new.machine ≡ side.machine → new.ended ≡ side.ended → pending_of new ≡ drop count (pending_of side) →
+  pub skipped : (new : ComparedSide) (count : ℕ) → new.left ≡ side.left → new.machine ≡ side.machine → new.ended ≡ side.ended → pending_of new ≡ drop count (pending_of side) →
       StandsAt program files new devices steps (compared ++ take count (pending_of side))
   skipped new count left machine ended pending = record {
     done = stands.done;
@@ -96,7 +96,7 @@ module _ (program : Program) (files : Files) (side : Side) (devices : List Seen)
 
 -- ---- one more step
 
-module _ (program : Program) (files : Files) (old new : Side) (machine : Machine) (devices : List Seen) (done steps : ℕ) (compared : Trace) (same : new.machine ≡ machine) (going : old.ended ≡ None) (counted : suc done + new.left ≡ steps) where
+module _ (program : Program) (files : Files) (old new : ComparedSide) (machine : Machine) (devices : List Seen) (done steps : ℕ) (compared : Trace) (same : new.machine ≡ machine) (going : old.ended ≡ None) (counted : suc done + new.left ≡ steps) where
   stands_on : (outcome : StepOutcome) → pending_of new ≡ step_events outcome new.machine → new.ended ≡ None → Tracks program files machine devices (suc done) (compared ++ step_events outcome machine) → StandsAt program files new devices steps compared
   stands_on outcome pending ended tracks = record {
     done = suc done;
@@ -133,7 +133,7 @@ module _ (program : Program) (files : Files) (old new : Side) (machine : Machine
 
 -- ---- the bench
 
-pub step_leaves : (made : Result StepOutcome NoMemory) (came : Advance) (old new : Side) (files : List FileEntry) (left now : ℕ) (was is : List Seen) (table : List FileRow) → Took made came old new → StepFalls made files left now was is table → StepLeaves came files left now was is table
+pub step_leaves : (made : Result StepOutcome NoMemory) (came : Advance) (old new : ComparedSide) (files : List FileEntry) (left now : ℕ) (was is : List Seen) (table : List FileRow) → Took made came old new → StepFalls made files left now was is table → StepLeaves came files left now was is table
 step_leaves (Ok step.On) came old new files left now was is table took falls = subst (λ (a : Advance). StepLeaves a files left now was is table) (sym took.0) falls
 step_leaves (Ok step.Shown) came old new files left now was is table took falls = subst (λ (a : Advance). StepLeaves a files left now was is table) (sym took.0) falls
 step_leaves (Ok (step.Over ending)) came old new files left now was is table took falls = subst (λ (a : Advance). StepLeaves a files left now was is table) (sym took.0) falls

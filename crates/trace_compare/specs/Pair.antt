@@ -2,7 +2,7 @@
 use Rattle.std.specs.Prelude.{ℕ, ◌≡◌, ◌+◌, ◌*◌, ◌-◌, ◌<◌, ◌≤◌, ◌^◌, List, length}
 use Rattle.cob_tree.specs.declared.file.FileEntry.{FileEntry}
 use Rattle.cob_tree.specs.declared.program.Program.{Program}
-use Rattle.cob_act.specs.declared.files.fault.FileFault.TheVariants as faults
+use Rattle.file_model.specs.declared.operations.fault.FileFault.TheVariants as faults
 use Rattle.cob_act.specs.files.Ends.{BrokeOver}
 use Rattle.cobol_run.specs.Falling.{SameBench}
 use Rattle.cobol_theory.specs.cobol_meaning.Runs.{Files, source_run}
@@ -16,7 +16,7 @@ use Rattle.trace_compare.specs.declared.pair.Turn.TheVariants as turn
 use Rattle.trace_compare.specs.declared.pair.Verdict.{Verdict}
 use Rattle.trace_compare.specs.declared.pair.Verdict.TheVariants as verdict
 use Rattle.trace_compare.specs.Differing.{Course, IsAnswer, course_of}
-use Rattle.trace_compare.specs.declared.side.Side.{Side}
+use Rattle.trace_compare.specs.declared.side.ComparedSide.{ComparedSide}
 use Rattle.trace_compare.specs.Side.{StandsAt, pending_of}
 
 -- ---- where both stand
@@ -42,7 +42,7 @@ abbrev pub course_in : Program → Files → ℕ → Course
 course_in program files steps = course_of (source_run program files steps)
 
 -- the side has made some of so many steps
-abbrev pub StandsStill : Program → Files → Side → List Seen → ℕ → Type 0
+abbrev pub StandsStill : Program → Files → ComparedSide → List Seen → ℕ → Type 0
 StandsStill program files side devices steps =
     (compared : Trace) × StandsAt program files side devices steps compared
 

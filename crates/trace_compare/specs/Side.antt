@@ -11,31 +11,31 @@ use Rattle.cobol_run.specs.Events.{Ended, Tracks, filed_events, step_events}
 use Rattle.cobol_run.specs.Falling.{SameBench}
 use Rattle.cobol_theory.specs.cobol_meaning.Runs.{Files}
 use Rattle.control_flow_theory.specs.semantics.Outcome.{Trace}
-use Rattle.cob_act.specs.declared.files.fault.FileFault.TheVariants as faults
+use Rattle.file_model.specs.declared.operations.fault.FileFault.TheVariants as faults
 use Rattle.cob_act.specs.files.Ends.{BrokeOver}
 use Rattle.file_model.specs.declared.table.FileRow.{FileRow}
 use Rattle.file_model.specs.operations.Seen.{Seen}
-use Rattle.trace_compare.specs.declared.side.Side.{Side}
+use Rattle.trace_compare.specs.declared.side.ComparedSide.{ComparedSide}
 use Rattle.trace_compare.specs.declared.side.Advance.{Advance}
 use Rattle.trace_compare.specs.declared.side.Advance.TheVariants as advance
 use Rattle.trace_compare.specs.Differing.{Way}
 use Rattle.trace_compare.specs.Event.{way_if}
 
 -- the events of its last step
-abbrev pub last_events : Side → Trace
+abbrev pub last_events : ComparedSide → Trace
 last_events side =
     if side.displayed then (0 ∷ side.machine.held.shown) ∷ [] else filed_events side.machine
 
 -- those that aren't compared
-abbrev pub pending_of : Side → Trace
+abbrev pub pending_of : ComparedSide → Trace
 pending_of side = drop side.compared (last_events side)
 
 -- the way in which it ended, if it did
-abbrev pub ended_of : Side → Option Way
+abbrev pub ended_of : ComparedSide → Option Way
 ended_of side = way_if side.ended
 
 -- the files of the program that runs
-abbrev pub files_of : Side → List FileEntry
+abbrev pub files_of : ComparedSide → List FileEntry
 files_of side = side.machine.plan.program.now.files
 
 -- the machine stands where the source stands after so many steps, having shown this; or the run
@@ -48,7 +48,7 @@ Reached program files machine devices done trace (Some ending) =
 
 -- the side has made some of so many steps of the source: it showed the events that are compared,
 -- and then those that aren't
-pub record StandsAt (program : Program) (files : Files) (side : Side) (devices : List Seen)
+pub record StandsAt (program : Program) (files : Files) (side : ComparedSide) (devices : List Seen)
     (steps : ℕ) (compared : Trace) : Type 0 where
   -- how many it made
   pub done : ℕ
@@ -59,7 +59,7 @@ pub record StandsAt (program : Program) (files : Files) (side : Side) (devices :
       side.ended
 
 -- the side has what a step came to: the events of the step, none of them compared, and its end
-abbrev pub Took : Result StepOutcome NoMemory → Advance → (old new : Side) → Type 0
+abbrev pub Took : Result StepOutcome NoMemory → Advance → (old new : ComparedSide) → Type 0
 Took (Ok step.On) came old new = (came ≡ advance.On)
     × (pending_of new ≡ step_events step.On new.machine) × (new.ended ≡ old.ended)
 Took (Ok step.Shown) came old new = (came ≡ advance.On)
@@ -70,7 +70,7 @@ Took (Ok step.Failed) came old new = came ≡ advance.Failed
 Took (Err e) came old new = came ≡ advance.NoMemory
 
 -- what one more step comes to
-abbrev pub StepsOn : Advance → Program → Files → Side → List Seen → ℕ → Trace → Type 0
+abbrev pub StepsOn : Advance → Program → Files → ComparedSide → List Seen → ℕ → Trace → Type 0
 StepsOn advance.On program files side devices steps compared =
     StandsAt program files side devices steps compared
 StepsOn advance.Failed program files side devices steps compared = Unit {0}

@@ -6,7 +6,7 @@
 //! the law that makes it an answer. A step's events are compared where they lie; no trace is kept.
 #![tactic(auto)]
 
-ghost use Rattle.std.specs.Prelude.{◌≡◌, ◌≤◌, map, vec_len};
+ghost use Rattle.std.specs.Prelude.{◌≡◌, ◌≤◌, vec_len};
 ghost use Rattle.trace_compare.specs.Comparing.{Compares, answered, first_fault, second_fault, unless_failed, unless_second};
 
 mod compared;
@@ -21,15 +21,15 @@ use cob_tree::Program;
 use cobol_run::events::{Finished, finish};
 use cobol_run::name_room;
 pub use compared::Compared;
-use file_model::operations::Watched;
-use file_model::{Bench, Device};
+use file_model::Bench;
+use file_model::operations::Shown;
 pub use laws::{
     more_steps_keep_the_answer, no_run_differs_from_itself, results_never_differ,
     small_runs_compare_as_said, the_answer_is_the_same_the_other_way_round,
     two_runs_have_one_answer,
 };
 use pair::{Pair, Verdict};
-use side::Side;
+use side::ComparedSide;
 use std::alloc::Global;
 
 // The answer where a device of the first bench failed.
@@ -102,16 +102,16 @@ pub fn compare(
     requires within { bench.old.left ≤ vec_len bench.old.devices }
     requires other_within { other_bench.old.left ≤ vec_len other_bench.old.devices }
     ensures { Compares program.now other.now steps bench.old.left bench.new.left
-        (map ⟦<Box<dyn Device> as Watched>⟧.seen bench.old.devices.items)
-        (map ⟦<Box<dyn Device> as Watched>⟧.seen bench.new.devices.items)
+        (⟦<Bench as Shown>⟧.all bench.old)
+        (⟦<Bench as Shown>⟧.all bench.new)
         other_bench.old.left other_bench.new.left
-        (map ⟦<Box<dyn Device> as Watched>⟧.seen other_bench.old.devices.items)
-        (map ⟦<Box<dyn Device> as Watched>⟧.seen other_bench.new.devices.items) result }
+        (⟦<Bench as Shown>⟧.all other_bench.old)
+        (⟦<Bench as Shown>⟧.all other_bench.new) result }
 {
-    let Ok(first) = Side::new(alloc, program, steps) else {
+    let Ok(first) = ComparedSide::new(alloc, program, steps) else {
         return Compared::NoMemory;
     };
-    let Ok(second) = Side::new(alloc, other, steps) else {
+    let Ok(second) = ComparedSide::new(alloc, other, steps) else {
         return Compared::NoMemory;
     };
     let Ok(mut room) = name_room(alloc, bench) else {

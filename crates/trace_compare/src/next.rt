@@ -9,7 +9,7 @@ use cobol_run::Ending;
 
 /// What is next, where the next events of both differ, if both have one.
 #[derive(Clone, Copy)]
-pub enum Next {
+pub enum Decision {
     /// A step of the first program.
     First,
     /// A step of the second program.
@@ -20,18 +20,18 @@ pub enum Next {
 }
 
 /// What is next where neither has one more event.
-pub fn both_without(first: Option<Ending>, second: Option<Ending>) -> Next
+pub fn both_without(first: Option<Ending>, second: Option<Ending>) -> Decision
     ensures { result ≡ both_without (way_if first) (way_if second) }
 {
     match first {
-        None => Next::Budget,
+        None => Decision::Budget,
         Some(one) => match second {
-            None => Next::Budget,
+            None => Decision::Budget,
             Some(other) => {
                 if same_ending(one, other) {
-                    Next::Same
+                    Decision::Same
                 } else {
-                    Next::Differ
+                    Decision::Differ
                 }
             }
         },
@@ -39,11 +39,11 @@ pub fn both_without(first: Option<Ending>, second: Option<Ending>) -> Next
 }
 
 /// What is next where the other program has one more event.
-pub fn behind_ended(ended: Option<Ending>) -> Next
+pub fn behind_ended(ended: Option<Ending>) -> Decision
     ensures { result ≡ behind_ended (way_if ended) }
 {
     match ended {
-        None => Next::Budget,
-        Some(_) => Next::Differ,
+        None => Decision::Budget,
+        Some(_) => Decision::Differ,
     }
 }

@@ -1,6 +1,6 @@
 //! Two programs that run beside each other, step by step.
 
-ghost use Rattle.std.specs.Prelude.{◌≡◌, ◌+◌, ◌<◌, ◌≤◌, ◌^◌, [], ℕ, List, None, length, map, take};
+ghost use Rattle.std.specs.Prelude.{◌≡◌, ◌+◌, ◌<◌, ◌≤◌, ◌^◌, [], ℕ, List, None, length};
 ghost use Rattle.cob_tree.specs.declared.file.FileEntry.{FileEntry};
 ghost use Rattle.cob_tree.specs.declared.program.Program.{Program};
 ghost use Rattle.file_model.specs.declared.table.FileRow.{FileRow};
@@ -13,10 +13,10 @@ ghost use Rattle.trace_compare.specs.Next.{front_of, next_of, settled};
 ghost use Rattle.trace_compare.specs.Side.{ended_of, files_of, pending_of};
 
 use crate::event::same_event;
-use crate::next::{Next, behind_ended, both_without};
-use crate::side::{Advance, Side};
-use file_model::operations::Watched;
-use file_model::{Bench, Device};
+use crate::next::{Decision, behind_ended, both_without};
+use crate::side::{Advance, ComparedSide};
+use file_model::Bench;
+use file_model::operations::Shown;
 
 /// What two programs come to, before their files are closed.
 #[derive(Clone, Copy)]
@@ -41,14 +41,14 @@ pub enum Turn {
 /// Two programs that run beside each other.
 #[derive(Drop)]
 pub struct Pair<'a> {
-    pub first: Side<'a>,
-    pub second: Side<'a>,
+    pub first: ComparedSide<'a>,
+    pub second: ComparedSide<'a>,
     /// How many events are compared, and were the same.
     pub same: u128,
 }
 
 // How many of the next events of the two are the same.
-fn same_events(first: &Side, second: &Side) -> usize
+fn same_events(first: &ComparedSide, second: &ComparedSide) -> usize
     ensures { result ≡ front_of (pending_of first.now) (pending_of second.now) }
 {
     let count = first.pending().min(second.pending());
@@ -81,13 +81,13 @@ impl<'a> Pair<'a> {
     }
 
     // What is next where neither needs one more step, or can make it.
-    fn settled(&self) -> Next
+    fn settled(&self) -> Decision
         ensures { result ≡ settled (pending_of self.now.first) (ended_of self.now.first)
             (pending_of self.now.second) (ended_of self.now.second) }
     {
         if self.first.has_event() {
             if self.second.has_event() {
-                Next::Differ
+                Decision::Differ
             } else {
                 behind_ended(self.second.ended)
             }
@@ -99,15 +99,15 @@ impl<'a> Pair<'a> {
     }
 
     // What is next.
-    fn next(&self) -> Next
+    fn next(&self) -> Decision
         ensures { result ≡ next_of (pending_of self.now.first) (ended_of self.now.first)
             self.now.first.left (pending_of self.now.second) (ended_of self.now.second)
             self.now.second.left }
     {
         if !self.first.has_event() && self.first.may_step() {
-            Next::First
+            Decision::First
         } else if !self.second.has_event() && self.second.may_step() {
-            Next::Second
+            Decision::Second
         } else {
             self.settled()
         }
@@ -120,15 +120,14 @@ impl<'a> Pair<'a> {
         requires going { self.old.first.ended ≡ None }
         requires left { 0 < self.old.first.left }
         ensures turned { (p q : Program) (files other_files : Files) (others : List Seen)
-            (steps : ℕ) → IsOwn p → BothStand p q files other_files self.old (take bench.old.left
-            (map ⟦<Box<dyn Device> as Watched>⟧.seen bench.old.devices.items)) others steps →
-            TurnsTo result p q files other_files self.new (take bench.new.left
-            (map ⟦<Box<dyn Device> as Watched>⟧.seen bench.new.devices.items)) others steps }
+            (steps : ℕ) → IsOwn p → BothStand p q files other_files self.old (⟦<Bench as Shown>⟧.on
+            bench.old) others steps →
+            TurnsTo result p q files other_files self.new (⟦<Bench as Shown>⟧.on
+            bench.new) others steps }
         ensures falls { (left : ℕ) (old : List Seen) → SameBench (files_of self.old.first)
-            left bench.old.left old
-            (map ⟦<Box<dyn Device> as Watched>⟧.seen bench.old.devices.items) →
+            left bench.old.left old (⟦<Bench as Shown>⟧.all bench.old) →
             FirstTurns result (files_of self.old.first) left bench.new.left old
-            (map ⟦<Box<dyn Device> as Watched>⟧.seen bench.new.devices.items)
+            (⟦<Bench as Shown>⟧.all bench.new)
             self.new.first.machine.table.rows }
         ensures first { self.new.first.machine.plan ≡ self.old.first.machine.plan }
         ensures second { self.new.second ≡ self.old.second }
@@ -152,15 +151,13 @@ impl<'a> Pair<'a> {
         requires left { 0 < self.old.second.left }
         ensures turned { (p q : Program) (files other_files : Files) (devices : List Seen)
             (steps : ℕ) → IsOwn q → BothStand p q files other_files self.old devices
-            (take bench.old.left
-            (map ⟦<Box<dyn Device> as Watched>⟧.seen bench.old.devices.items)) steps →
-            TurnsTo result p q files other_files self.new devices (take bench.new.left
-            (map ⟦<Box<dyn Device> as Watched>⟧.seen bench.new.devices.items)) steps }
+            (⟦<Bench as Shown>⟧.on bench.old) steps →
+            TurnsTo result p q files other_files self.new devices (⟦<Bench as Shown>⟧.on
+            bench.new) steps }
         ensures falls { (left : ℕ) (old : List Seen) → SameBench (files_of self.old.second)
-            left bench.old.left old
-            (map ⟦<Box<dyn Device> as Watched>⟧.seen bench.old.devices.items) →
+            left bench.old.left old (⟦<Bench as Shown>⟧.all bench.old) →
             SecondTurns result (files_of self.old.second) left bench.new.left old
-            (map ⟦<Box<dyn Device> as Watched>⟧.seen bench.new.devices.items)
+            (⟦<Bench as Shown>⟧.all bench.new)
             self.new.second.machine.table.rows }
         ensures first { self.new.first ≡ self.old.first }
         ensures second { self.new.second.machine.plan ≡ self.old.second.machine.plan }
@@ -181,25 +178,19 @@ impl<'a> Pair<'a> {
         requires room { HasRoom self.old }
         ensures turned { (p q : Program) (files other_files : Files) (steps : ℕ) →
             IsOwn p → IsOwn q → BothStand p q files other_files self.old
-            (take bench.old.left
-            (map ⟦<Box<dyn Device> as Watched>⟧.seen bench.old.devices.items))
-            (take other.old.left
-            (map ⟦<Box<dyn Device> as Watched>⟧.seen other.old.devices.items)) steps →
-            TurnsTo result p q files other_files self.new (take bench.new.left
-            (map ⟦<Box<dyn Device> as Watched>⟧.seen bench.new.devices.items))
-            (take other.new.left
-            (map ⟦<Box<dyn Device> as Watched>⟧.seen other.new.devices.items)) steps }
+            (⟦<Bench as Shown>⟧.on bench.old)
+            (⟦<Bench as Shown>⟧.on other.old) steps →
+            TurnsTo result p q files other_files self.new (⟦<Bench as Shown>⟧.on bench.new)
+            (⟦<Bench as Shown>⟧.on other.new) steps }
         ensures first_falls { (left : ℕ) (old : List Seen) → SameBench (files_of self.old.first)
-            left bench.old.left old
-            (map ⟦<Box<dyn Device> as Watched>⟧.seen bench.old.devices.items) →
+            left bench.old.left old (⟦<Bench as Shown>⟧.all bench.old) →
             FirstTurns result (files_of self.old.first) left bench.new.left old
-            (map ⟦<Box<dyn Device> as Watched>⟧.seen bench.new.devices.items)
+            (⟦<Bench as Shown>⟧.all bench.new)
             self.new.first.machine.table.rows }
         ensures second_falls { (left : ℕ) (old : List Seen) → SameBench (files_of self.old.second)
-            left other.old.left old
-            (map ⟦<Box<dyn Device> as Watched>⟧.seen other.old.devices.items) →
+            left other.old.left old (⟦<Bench as Shown>⟧.all other.old) →
             SecondTurns result (files_of self.old.second) left other.new.left old
-            (map ⟦<Box<dyn Device> as Watched>⟧.seen other.new.devices.items)
+            (⟦<Bench as Shown>⟧.all other.new)
             self.new.second.machine.table.rows }
         ensures first { self.new.first.machine.plan ≡ self.old.first.machine.plan }
         ensures second { self.new.second.machine.plan ≡ self.old.second.machine.plan }
@@ -207,11 +198,11 @@ impl<'a> Pair<'a> {
     {
         self.match_events();
         match self.next() {
-            Next::First => self.step_first(bench),
-            Next::Second => self.step_second(other),
-            Next::Same => Turn::Over(Verdict::Same(self.same)),
-            Next::Differ => Turn::Over(Verdict::Differ(self.same + 1)),
-            Next::Budget => Turn::Over(Verdict::Budget),
+            Decision::First => self.step_first(bench),
+            Decision::Second => self.step_second(other),
+            Decision::Same => Turn::Over(Verdict::Same(self.same)),
+            Decision::Differ => Turn::Over(Verdict::Differ(self.same + 1)),
+            Decision::Budget => Turn::Over(Verdict::Budget),
         }
     }
 
@@ -220,23 +211,19 @@ impl<'a> Pair<'a> {
         requires room { HasRoom self.old }
         ensures verdict { (p q : Program) (files other_files : Files) (steps : ℕ) →
             IsOwn p → IsOwn q → BothStand p q files other_files self.old
-            (take bench.old.left
-            (map ⟦<Box<dyn Device> as Watched>⟧.seen bench.old.devices.items))
-            (take other.old.left
-            (map ⟦<Box<dyn Device> as Watched>⟧.seen other.old.devices.items)) steps →
-            IsVerdict result p q files other_files self.new (take bench.new.left
-            (map ⟦<Box<dyn Device> as Watched>⟧.seen bench.new.devices.items))
-            (take other.new.left
-            (map ⟦<Box<dyn Device> as Watched>⟧.seen other.new.devices.items)) steps }
+            (⟦<Bench as Shown>⟧.on bench.old)
+            (⟦<Bench as Shown>⟧.on other.old) steps →
+            IsVerdict result p q files other_files self.new (⟦<Bench as Shown>⟧.on bench.new)
+            (⟦<Bench as Shown>⟧.on other.new) steps }
         ensures first_falls { FirstFalls result (files_of self.old.first)
             bench.old.left bench.new.left
-            (map ⟦<Box<dyn Device> as Watched>⟧.seen bench.old.devices.items)
-            (map ⟦<Box<dyn Device> as Watched>⟧.seen bench.new.devices.items)
+            (⟦<Bench as Shown>⟧.all bench.old)
+            (⟦<Bench as Shown>⟧.all bench.new)
             self.new.first.machine.table.rows }
         ensures second_falls { SecondFalls result (files_of self.old.second)
             other.old.left other.new.left
-            (map ⟦<Box<dyn Device> as Watched>⟧.seen other.old.devices.items)
-            (map ⟦<Box<dyn Device> as Watched>⟧.seen other.new.devices.items)
+            (⟦<Bench as Shown>⟧.all other.old)
+            (⟦<Bench as Shown>⟧.all other.new)
             self.new.second.machine.table.rows }
         ensures first { self.new.first.machine.plan ≡ self.old.first.machine.plan }
         ensures second { self.new.second.machine.plan ≡ self.old.second.machine.plan }

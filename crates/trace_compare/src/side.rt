@@ -1,6 +1,6 @@
 //! One of two programs that run beside each other.
 
-ghost use Rattle.std.specs.Prelude.{◌≡◌, ◌+◌, ◌<◌, ◌≤◌, ◌^◌, ◌++◌, [], ℕ, List, IfOk, Some, None, drop, length, map, slice_get, take};
+ghost use Rattle.std.specs.Prelude.{◌≡◌, ◌+◌, ◌<◌, ◌≤◌, ◌^◌, ◌++◌, [], ℕ, List, IfOk, Some, None, drop, length, slice_get, take};
 ghost use Rattle.cob_tree.specs.declared.program.Program.{Program};
 ghost use Rattle.cobol_theory.specs.cobol_meaning.Runs.{Files};
 ghost use Rattle.cobol_run.specs.Falling.{SameBench};
@@ -17,13 +17,13 @@ use cob_base::NoMemory;
 use cob_tree::Program;
 use cobol_run::events::{advance, begin};
 use cobol_run::{Ending, Machine, StepOutcome};
-use file_model::operations::Watched;
-use file_model::{Bench, Device};
+use file_model::Bench;
+use file_model::operations::Shown;
 use std::alloc::Global;
 
 /// A program that runs beside another one.
 #[derive(Drop)]
-pub struct Side<'a> {
+pub struct ComparedSide<'a> {
     pub machine: Machine<'a>,
     /// How many more steps it may make.
     pub left: u64,
@@ -44,9 +44,13 @@ pub enum Advance {
     NoMemory,
 }
 
-impl<'a> Side<'a> {
+impl<'a> ComparedSide<'a> {
     /// A program at its start, which may make so many steps. No event is there to be compared.
-    pub fn new(alloc: Global, program: &'a Program, steps: u64) -> Result<Side<'a>, NoMemory>
+    pub fn new(
+        alloc: Global,
+        program: &'a Program,
+        steps: u64,
+    ) -> Result<ComparedSide<'a>, NoMemory>
         ensures stands { IfOk result (λ side. (devices : List Seen) (files : Files) →
             TellFiles program.now devices files →
             StandsAt program.now files side devices steps []) }
@@ -56,7 +60,7 @@ impl<'a> Side<'a> {
         ensures left { IfOk result (λ side. side.left ≡ steps) }
     {
         let machine = begin(alloc, program)?;
-        Ok(Side {
+        Ok(ComparedSide {
             machine,
             left: steps,
             displayed: true,
@@ -132,15 +136,12 @@ impl<'a> Side<'a> {
         requires left { 0 < self.old.left }
         ensures stands { (program : Program) (files : Files) (steps : ℕ) (compared : Trace) →
             IsOwn program → self.old.ended ≡ None → pending_of self.old ≡ [] →
-            StandsAt program files self.old (take bench.old.left
-            (map ⟦<Box<dyn Device> as Watched>⟧.seen bench.old.devices.items)) steps compared →
-            StepsOn result program files self.new (take bench.new.left
-            (map ⟦<Box<dyn Device> as Watched>⟧.seen bench.new.devices.items)) steps compared }
+            StandsAt program files self.old (⟦<Bench as Shown>⟧.on bench.old) steps compared →
+            StepsOn result program files self.new (⟦<Bench as Shown>⟧.on bench.new) steps compared }
         ensures falls { (left : ℕ) (old : List Seen) → SameBench (files_of self.old)
-            left bench.old.left old
-            (map ⟦<Box<dyn Device> as Watched>⟧.seen bench.old.devices.items) →
+            left bench.old.left old (⟦<Bench as Shown>⟧.all bench.old) →
             StepLeaves result (files_of self.old) left bench.new.left old
-            (map ⟦<Box<dyn Device> as Watched>⟧.seen bench.new.devices.items)
+            (⟦<Bench as Shown>⟧.all bench.new)
             self.new.machine.table.rows }
         ensures plan { self.new.machine.plan ≡ self.old.machine.plan }
         ensures fewer { self.new.left + 1 ≡ self.old.left }

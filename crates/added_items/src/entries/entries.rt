@@ -10,7 +10,7 @@ ghost use Rattle.added_items.specs.item_table.Naming.{digits_of, is_signed, seen
 use crate::item_table::AddedItem;
 use branch_tree::Added;
 use cob_base::{Items, NoMemory};
-use cob_tree::{Digits, Entry, Number, Operand, Picture, Sign, Usage};
+use cob_tree::{Entry, Number, Operand, Picture, Sign, SpelledDigits, Usage};
 use cob_words::numbered::numbered_text;
 use std::alloc::Global;
 
@@ -44,7 +44,7 @@ fn zero(alloc: Global) -> Result<Operand, NoMemory>
     let digits = numbered_text(alloc, &[], 0)?;
     Ok(Operand::Number(Number {
         negative: false,
-        digits: Digits::new(digits),
+        digits: SpelledDigits::new(digits),
         scale: 0,
     }))
 }

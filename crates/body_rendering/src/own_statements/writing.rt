@@ -7,7 +7,9 @@ ghost use Rattle.statement_builders.specs.arms.Written.{IsWritten, AreWritten, A
 ghost use Rattle.body_rendering.specs.own_statements.Writing.{IsWhenWritten, ArePairWritten, IsOwnIf, IsTestIf, IsOwnEvaluate, IsBySubject, HasPhrases, has_phrases, has_first};
 
 use cob_base::{Items, NoMemory};
-use cob_tree::{Arms, Calc, Cond, Control, Operand, Place, Stmt, Subject, Target, When};
+use cob_tree::{
+    ArmParts, Arms, Calc, Cond, Control, Operand, Place, Stmt, StmtParts, Subject, Target, When,
+};
 use program_facts::own_items::{is_own_arith, is_own_move, is_own_subject, is_own_test};
 use statement_builders::arms::{
     ProcedurePlace, arith_stmt, evaluate_stmt, if_stmt, loop_stmt, or_continue, perform_stmt,
@@ -23,15 +25,15 @@ use std::mem;
 pub fn write_stmt(alloc: Global, stmt: Stmt, places: &[ProcedurePlace]) -> Result<Stmt, NoMemory>
     ensures { IfOk result (λ made. IsWritten places.now stmt made) }
 {
-    match stmt {
-        Stmt::Arith { calc, into, arms } => write_arith(alloc, calc, into, arms, places),
-        Stmt::Read { file, into, arms } => write_read(alloc, file, into, arms, places),
-        Stmt::If { cond, yes, no } => {
+    match stmt.into_parts() {
+        StmtParts::Arith { calc, into, arms } => write_arith(alloc, calc, into, arms, places),
+        StmtParts::Read { file, into, arms } => write_read(alloc, file, into, arms, places),
+        StmtParts::If { cond, yes, no } => {
             let yes = write_stmts(alloc, yes, places);
             let no = write_stmts(alloc, no, places);
             own_if(cond, pair_of(yes, no))
         }
-        Stmt::Evaluate {
+        StmtParts::Evaluate {
             subject,
             whens,
             other,
@@ -41,28 +43,28 @@ pub fn write_stmt(alloc: Global, stmt: Stmt, places: &[ProcedurePlace]) -> Resul
             let other = write_arm(alloc, other, places);
             own_evaluate(subject, branches_of(whens, other), has_other)
         }
-        Stmt::Loop { control, body } => write_loop(alloc, control, body, places),
-        Stmt::Perform {
+        StmtParts::Loop { control, body } => write_loop(alloc, control, body, places),
+        StmtParts::Perform {
             entry,
             exit,
             control,
         } => write_perform(entry, exit, control, places),
-        Stmt::Move { from, to } => write_move(from, to),
-        Stmt::Display { items, advance } => Ok(Stmt::Display { items, advance }),
-        Stmt::SetTrue(place) => Ok(Stmt::SetTrue(place)),
-        Stmt::Opens(openings) => Ok(Stmt::Opens(openings)),
-        Stmt::Closes(files) => Ok(Stmt::Closes(files)),
-        Stmt::Write { entry, from } => Ok(Stmt::Write { entry, from }),
-        Stmt::Rewrite { entry, from } => Ok(Stmt::Rewrite { entry, from }),
-        Stmt::Go(to) => Ok(Stmt::Go(to)),
-        Stmt::GoDepending { to, on } => Ok(Stmt::GoDepending { to, on }),
-        Stmt::NextSentence => Ok(Stmt::NextSentence),
-        Stmt::StopRun => Ok(Stmt::StopRun),
-        Stmt::Exit => Ok(Stmt::Exit),
-        Stmt::ExitParagraph => Ok(Stmt::ExitParagraph),
-        Stmt::ExitSection => Ok(Stmt::ExitSection),
-        Stmt::ExitPerform { cycle } => Ok(Stmt::ExitPerform { cycle }),
-        Stmt::Continue => Ok(Stmt::Continue),
+        StmtParts::Move { from, to } => write_move(from, to),
+        StmtParts::Display { items, advance } => Ok(Stmt::Display { items, advance }),
+        StmtParts::SetTrue(place) => Ok(Stmt::SetTrue(place)),
+        StmtParts::Opens(openings) => Ok(Stmt::Opens(openings)),
+        StmtParts::Closes(files) => Ok(Stmt::Closes(files)),
+        StmtParts::Write { entry, from } => Ok(Stmt::Write { entry, from }),
+        StmtParts::Rewrite { entry, from } => Ok(Stmt::Rewrite { entry, from }),
+        StmtParts::Go(to) => Ok(Stmt::Go(to)),
+        StmtParts::GoDepending { to, on } => Ok(Stmt::GoDepending { to, on }),
+        StmtParts::NextSentence => Ok(Stmt::NextSentence),
+        StmtParts::StopRun => Ok(Stmt::StopRun),
+        StmtParts::Exit => Ok(Stmt::Exit),
+        StmtParts::ExitParagraph => Ok(Stmt::ExitParagraph),
+        StmtParts::ExitSection => Ok(Stmt::ExitSection),
+        StmtParts::ExitPerform { cycle } => Ok(Stmt::ExitPerform { cycle }),
+        StmtParts::Continue => Ok(Stmt::Continue),
     }
 }
 
@@ -348,7 +350,7 @@ fn pair_of(
 fn write_pair(alloc: Global, arms: Arms, places: &[ProcedurePlace]) -> Result<BothArms, NoMemory>
     ensures { IfOk result (λ pair. ArePairWritten places.now arms pair) }
 {
-    let Arms { first, second } = arms;
+    let ArmParts { first, second } = arms.into_parts();
     let first = write_arm(alloc, first, places);
     let second = write_arm(alloc, second, places);
     pair_of(first, second)

@@ -1,6 +1,6 @@
 -- An operation that a statement asks for, in a world that stands over devices which tell their
 -- files.
-use Rattle.std.proofs.Common.{◌≡◌, ◌∙◌, sym, subst, ℕ, zero, suc, ◌<◌, ◌≤◌, ◌^◌, ◌==◌, Bool, true, false, List, [], ◌∷◌, map, length, take, Option, Some, None, IsTrue, Result, Ok, refl, ap, arith, inl, inr, slice_get, slice_set, if◌then◌else◌, unwrap_or}
+use Rattle.std.proofs.Common.{◌≡◌, ◌∙◌, sym, subst, ℕ, zero, suc, ◌<◌, ◌≤◌, ◌^◌, ◌==◌, Bool, true, false, List, [], ◌∷◌, map, length, take, Option, Some, None, IsTrue, Result, Ok, Err, refl, ap, arith, inl, inr, slice_get, slice_set, if◌then◌else◌, unwrap_or}
 use Rattle.std.proofs.lemmas.Bool.{cases_lt}
 use Rattle.std.proofs.lemmas.List.{length-map}
 use Rattle.cob_tree.specs.declared.file.FileEntry.{FileEntry}
@@ -10,8 +10,8 @@ use Rattle.file_model.specs.Attempts.{Address, Attempt, closed, noted, opened_at
 use Rattle.file_model.specs.Status.{closed_row, may_open}
 use Rattle.file_model.specs.World.{FileState, World}
 use Rattle.meanings.specs.statements.Filing.{address_by}
-use Rattle.file_model.specs.declared.operations.tried.Tried.{Tried}
-use Rattle.file_model.specs.declared.operations.tried.Tried.TheVariants as tried
+use Rattle.file_model.specs.declared.operations.fault.FileFault.{FileFault}
+use Rattle.file_model.specs.declared.operations.fault.FileFault.TheVariants as faults
 use Rattle.file_model.specs.operations.Seen.{Seen, device_found}
 use Rattle.file_model.specs.operations.Standing.{IsTold, Stands, row_of}
 use Rattle.file_model.specs.operations.Calls.{Comes, Leaves, Notes, addresses_of}
@@ -19,9 +19,6 @@ use Rattle.file_model.specs.operations.Shutting.{StandsLeft}
 use Rattle.file_model.proofs.operations_lemmas.FallLemmas.{off_named}
 use Rattle.file_model.proofs.operations_lemmas.ShutLemmas.{left_standing, left_without}
 use Rattle.file_model.proofs.operations_lemmas.TellLemmas.{kept_told}
-use Rattle.cob_act.specs.declared.files.fault.FileFault.{FileFault}
-use Rattle.cob_act.specs.declared.files.fault.FileFault.TheVariants as faults
-use Rattle.cob_act.specs.files.Ends.{answered}
 use Rattle.cob_act.specs.files.Over.{BrokeIn, IsOver, Stays, Tries}
 use Rattle.cob_act.proofs.files_lemmas.BenchLemmas.{done_listed, none_asked}
 
@@ -32,9 +29,9 @@ file_address [] file within = absurd (omega (arith, within))
 file_address (entry ∷ files) zero within = refl
 file_address (entry ∷ files) (suc file) within = file_address files file (omega (arith, within))
 
-comes_tries : (files : List FileEntry) (answer : Tried) (name : List ℕ) (left left_now : ℕ) (old new : List Seen) (table now : List FileRow) (world : World) (attempt : Attempt) → length now ≡ length table → IsOver files (take left old) table world →
-    Leaves answer name left left_now old new → Comes answer (addresses_of files) name (take left_now new) now world attempt → Tries files (answered answer) attempt (take left_now new) now
-comes_tries files (tried.Status status) name left left_now old new table now world attempt many over leaves comes = (
+comes_tries : (files : List FileEntry) (answer : Result ℕ FileFault) (name : List ℕ) (left left_now : ℕ) (old new : List Seen) (table now : List FileRow) (world : World) (attempt : Attempt) → length now ≡ length table → IsOver files (take left old) table world →
+    Leaves answer name left left_now old new → Comes answer (addresses_of files) name (take left_now new) now world attempt → Tries files answer attempt (take left_now new) now
+comes_tries files (Ok status) name left left_now old new table now world attempt many over leaves comes = (
   comes.0,
   record {
     rows = many ∙ over.rows;
@@ -43,33 +40,27 @@ comes_tries files (tried.Status status) name left left_now old new table now wor
     stands = comes.1;
   },
 )
-comes_tries files tried.Failed name left left_now old new table now world attempt many over leaves comes = tt
-comes_tries files tried.NoMemory name left left_now old new table now world attempt many over leaves comes = tt
+comes_tries files (Err faults.Device) name left left_now old new table now world attempt many over leaves comes = tt
+comes_tries files (Err faults.NoMemory) name left left_now old new table now world attempt many over leaves comes = tt
 
 -- what such an operation comes to, by what the devices say of it
-pub tried_over : (files : List FileEntry) (file : ℕ) (result : Result ℕ FileFault) (answer : Tried) (left left_now : ℕ) (old new : List Seen) (table now : List FileRow) (world : World) (attempt : Address → Attempt) → file < length files → result ≡ answered answer → length now ≡ length table →
-    ((address : Address) → slice_get (addresses_of files) file ≡ Some address → Leaves answer address.device left left_now old new) →
-    ((address : Address) → slice_get (addresses_of files) file ≡ Some address → Stands (addresses_of files) (take left old) table world → IsTold (device_found address.device (take left old)) → Comes answer (addresses_of files) address.device (take left_now new) now world (attempt address)) →
+pub tried_over : (files : List FileEntry) (file : ℕ) (result : Result ℕ FileFault) (left left_now : ℕ) (old new : List Seen) (table now : List FileRow) (world : World) (attempt : Address → Attempt) → file < length files → length now ≡ length table →
+    ((address : Address) → slice_get (addresses_of files) file ≡ Some address → Leaves result address.device left left_now old new) →
+    ((address : Address) → slice_get (addresses_of files) file ≡ Some address → Stands (addresses_of files) (take left old) table world → IsTold (device_found address.device (take left old)) → Comes result (addresses_of files) address.device (take left_now new) now world (attempt address)) →
     IsOver files (take left old) table world → Tries files result (attempt (address_by (slice_get files file))) (take left_now new) now
-tried_over files file result answer left left_now old new table now world attempt within is many leaves comes over =
+tried_over files file result left left_now old new table now world attempt within many leaves comes over =
     let address : Address = address_by (slice_get files file) in
     let here : slice_get (addresses_of files) file ≡ Some address = file_address files file within in
-    subst (λ (r : Result ℕ FileFault). Tries files r (attempt address) (take left_now new) now) (sym is)
-    (comes_tries files answer address.device left left_now old new table now world (attempt address) many over (leaves address here) (comes address here over.stands (over.told file address here)))
-
-status_came : (answer : Tried) → Ok 0 ≡ answered answer → answer ≡ tried.Status 0
-status_came tried.Failed e = cc
-status_came (tried.Status status) e = cc
-status_came tried.NoMemory e = cc
+    comes_tries files result address.device left left_now old new table now world (attempt address) many over (leaves address here) (comes address here over.stands (over.told file address here))
 
 -- the record that came
-pub record_came : (files : List FileEntry) (file : ℕ) (result : Result ℕ FileFault) (answer : Tried) (left : ℕ) (old : List Seen) (table : List FileRow) (world : World) (into : List ℕ) (attempt : Address → Attempt) → file < length files → result ≡ answered answer →
-    ((address : Address) → slice_get (addresses_of files) file ≡ Some address → Stands (addresses_of files) (take left old) table world → IsTold (device_found address.device (take left old)) → answer ≡ tried.Status 0 → into ≡ (attempt address).bytes) →
+pub record_came : (files : List FileEntry) (file : ℕ) (result : Result ℕ FileFault) (left : ℕ) (old : List Seen) (table : List FileRow) (world : World) (into : List ℕ) (attempt : Address → Attempt) → file < length files →
+    ((address : Address) → slice_get (addresses_of files) file ≡ Some address → Stands (addresses_of files) (take left old) table world → IsTold (device_found address.device (take left old)) → result ≡ Ok 0 → into ≡ (attempt address).bytes) →
     IsOver files (take left old) table world → result ≡ Ok 0 → into ≡ (attempt (address_by (slice_get files file))).bytes
-record_came files file result answer left old table world into attempt within is given over came =
+record_came files file result left old table world into attempt within given over came =
     let address : Address = address_by (slice_get files file) in
     let here : slice_get (addresses_of files) file ≡ Some address = file_address files file within in
-    given address here over.stands (over.told file address here) (status_came answer (sym came ∙ is))
+    given address here over.stands (over.told file address here) came
 
 -- ---- a file that the program hasn't
 
@@ -138,25 +129,24 @@ many_addresses files = simp length-map
 pub over_left : (files : List FileEntry) (left : ℕ) (devices : List Seen) (table : List FileRow) (world : World) → IsOver files (take left devices) table world → BrokeIn faults.NoMemory files world left devices table
 over_left files left devices table world over = left_standing (addresses_of files) (take left devices) table world (over.rows ∙ sym (many_addresses files)) over.stands
 
-comes_stays : (files : List FileEntry) (address : Address) (answer : Tried) (file left left_now : ℕ) (old new : List Seen) (table now : List FileRow) (world : World) (attempt : Attempt) → IsOver files (take left old) table world →
-    Leaves answer address.device left left_now old new → Notes answer file address.device (addresses_of files) table now → Comes answer (addresses_of files) address.device (take left_now new) now world attempt → Stays (answered answer) files world left_now new now
-comes_stays files address (tried.Status status) file left left_now old new table now world attempt over leaves notes comes = tt
-comes_stays files address tried.Failed file left left_now old new table now world attempt over leaves notes comes =
+comes_stays : (files : List FileEntry) (address : Address) (answer : Result ℕ FileFault) (file left left_now : ℕ) (old new : List Seen) (table now : List FileRow) (world : World) (attempt : Attempt) → IsOver files (take left old) table world →
+    Leaves answer address.device left left_now old new → Notes answer file address.device (addresses_of files) table now → Comes answer (addresses_of files) address.device (take left_now new) now world attempt → Stays answer files world left_now new now
+comes_stays files address (Ok status) file left left_now old new table now world attempt over leaves notes comes = tt
+comes_stays files address (Err faults.Device) file left left_now old new table now world attempt over leaves notes comes =
     subst (λ (name : List ℕ). StandsLeft (addresses_of files) (name ∷ []) (take left_now new) now world) (sym (off_named address.device left left_now old new leaves))
     (left_without address.device (addresses_of files) (take left old) (take left_now new) table now world (over.rows ∙ sym (many_addresses files)) over.stands notes comes)
-comes_stays files address tried.NoMemory file left left_now old new table now world attempt over leaves notes comes =
+comes_stays files address (Err faults.NoMemory) file left left_now old new table now world attempt over leaves notes comes =
     left_standing (addresses_of files) (take left_now new) now world (ap length notes ∙ over.rows ∙ sym (many_addresses files)) comes
 
-pub stays_over : (files : List FileEntry) (file : ℕ) (result : Result ℕ FileFault) (answer : Tried) (left left_now : ℕ) (old new : List Seen) (table now : List FileRow) (world : World) (attempt : Address → Attempt) → file < length files → result ≡ answered answer →
-    ((address : Address) → slice_get (addresses_of files) file ≡ Some address → Leaves answer address.device left left_now old new) →
-    ((address : Address) → slice_get (addresses_of files) file ≡ Some address → Notes answer file address.device (addresses_of files) table now) →
-    ((address : Address) → slice_get (addresses_of files) file ≡ Some address → Stands (addresses_of files) (take left old) table world → IsTold (device_found address.device (take left old)) → Comes answer (addresses_of files) address.device (take left_now new) now world (attempt address)) →
+pub stays_over : (files : List FileEntry) (file : ℕ) (result : Result ℕ FileFault) (left left_now : ℕ) (old new : List Seen) (table now : List FileRow) (world : World) (attempt : Address → Attempt) → file < length files →
+    ((address : Address) → slice_get (addresses_of files) file ≡ Some address → Leaves result address.device left left_now old new) →
+    ((address : Address) → slice_get (addresses_of files) file ≡ Some address → Notes result file address.device (addresses_of files) table now) →
+    ((address : Address) → slice_get (addresses_of files) file ≡ Some address → Stands (addresses_of files) (take left old) table world → IsTold (device_found address.device (take left old)) → Comes result (addresses_of files) address.device (take left_now new) now world (attempt address)) →
     IsOver files (take left old) table world → Stays result files world left_now new now
-stays_over files file result answer left left_now old new table now world attempt within is leaves notes comes over =
+stays_over files file result left left_now old new table now world attempt within leaves notes comes over =
     let address : Address = address_by (slice_get files file) in
     let here : slice_get (addresses_of files) file ≡ Some address = file_address files file within in
-    subst (λ (r : Result ℕ FileFault). Stays r files world left_now new now) (sym is)
-    (comes_stays files address answer file left left_now old new table now world (attempt address) over (leaves address here) (notes address here) (comes address here over.stands (over.told file address here)))
+    comes_stays files address result file left left_now old new table now world (attempt address) over (leaves address here) (notes address here) (comes address here over.stands (over.told file address here))
 
 -- as it was asked for
 pub stays_listed : {A : Type 0} (result : Result A FileFault) (listed program : List FileEntry) (devices : List Seen) (table : List FileRow) (world : World) (left : ℕ) (new : List Seen) (now : List FileRow) → listed ≡ program →

@@ -10,7 +10,7 @@ use Rattle.meanings.specs.statements.Filing.{Effect, Operation, after, each_file
 use Rattle.cob_act.specs.declared.acting.ActOutcome.{ActOutcome}
 use Rattle.cob_act.specs.declared.acting.ActOutcome.TheVariants.{Went, Abended}
 use Rattle.file_model.specs.operations.Seen.{Seen}
-use Rattle.cob_act.specs.declared.files.fault.FileFault.{FileFault}
+use Rattle.file_model.specs.declared.operations.fault.FileFault.{FileFault}
 use Rattle.cob_act.specs.files.Over.{BreaksIn, BrokeIn, Did, IsOver, StopsAmong, world_behind}
 use Rattle.cob_act.specs.declared.files.work.FileWork.{FileWork}
 use Rattle.cob_act.specs.files.Ends.{ended_as}

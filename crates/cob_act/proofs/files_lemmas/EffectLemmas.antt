@@ -15,7 +15,7 @@ use Rattle.meanings.specs.statements.Outcome.{Outcome}
 use Rattle.cob_act.specs.declared.acting.ActOutcome.{ActOutcome}
 use Rattle.cob_act.specs.declared.acting.ActOutcome.TheVariants.{Went, Shown, Chose, Abended}
 use Rattle.file_model.specs.operations.Seen.{Seen}
-use Rattle.cob_act.specs.declared.files.fault.FileFault.{FileFault}
+use Rattle.file_model.specs.declared.operations.fault.FileFault.{FileFault}
 use Rattle.cob_act.specs.files.Ends.{ended_as}
 use Rattle.cob_act.specs.files.Over.{Did, IsOver, PutsOut, Tries}
 

@@ -14,8 +14,8 @@ use Rattle.meanings.specs.statements.Filing as files
 use Rattle.cob_act.specs.declared.acting.ActOutcome.{ActOutcome}
 use Rattle.cob_act.specs.declared.acting.ActOutcome.TheVariants.{Abended}
 use Rattle.file_model.specs.operations.Seen.{Seen}
-use Rattle.cob_act.specs.declared.files.fault.FileFault.{FileFault}
-use Rattle.cob_act.specs.declared.files.fault.FileFault.TheVariants as faults
+use Rattle.file_model.specs.declared.operations.fault.FileFault.{FileFault}
+use Rattle.file_model.specs.declared.operations.fault.FileFault.TheVariants as faults
 use Rattle.cob_act.specs.files.Ends.{ended_as}
 use Rattle.cob_act.specs.files.Over.{BreaksIn, BrokeIn, Did, EndsAs, IsOver, Tries, read_then, world_behind}
 use Rattle.cob_act.proofs.files_lemmas.DeskLemmas.{over_left}

@@ -17,7 +17,7 @@ use Rattle.meanings.specs.statements.Filing.{Declared, Effect, Ended, Operation,
 use Rattle.meanings.specs.statements.Filing as files
 use Rattle.meanings.specs.statements.Outcome.{Outcome}
 use Rattle.cob_act.specs.declared.acting.ActOutcome.{ActOutcome}
-use Rattle.cob_act.specs.declared.files.fault.FileFault.{FileFault}
+use Rattle.file_model.specs.declared.operations.fault.FileFault.{FileFault}
 use Rattle.cob_act.specs.declared.files.work.FileDone.{FileDone}
 use Rattle.cob_act.specs.declared.files.work.FileVerb.{FileVerb}
 use Rattle.cob_act.specs.declared.files.work.FileVerb.TheVariants as verbs

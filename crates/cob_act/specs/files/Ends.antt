@@ -7,12 +7,10 @@ use Rattle.meanings.specs.statements.Filing.{Ended}
 use Rattle.meanings.specs.statements.Filing as files
 use Rattle.cob_act.specs.declared.acting.ActOutcome.{ActOutcome}
 use Rattle.cob_act.specs.declared.acting.ActOutcome.TheVariants.{Went, Shown, Chose, Abended}
-use Rattle.file_model.specs.declared.operations.tried.Tried.{Tried}
-use Rattle.file_model.specs.declared.operations.tried.Tried.TheVariants as tried
+use Rattle.file_model.specs.declared.operations.fault.FileFault.{FileFault}
+use Rattle.file_model.specs.declared.operations.fault.FileFault.TheVariants as faults
 use Rattle.file_model.specs.operations.Seen.{Seen}
 use Rattle.file_model.specs.operations.Falling.{AreShut, LeftOf, is_used, name_behind}
-use Rattle.cob_act.specs.declared.files.fault.FileFault.{FileFault}
-use Rattle.cob_act.specs.declared.files.fault.FileFault.TheVariants as faults
 
 -- how a statement on files ends by this outcome; none shows bytes
 abbrev pub ended_as : ActOutcome → Ended
@@ -20,12 +18,6 @@ ended_as Went = files.Went
 ended_as Shown = files.Went
 ended_as (Chose arm) = files.Chose arm
 ended_as (Abended abend) = files.Abended abend
-
--- what an operation comes to, as the status of a statement or why it broke off
-abbrev pub answered : Tried → Result ℕ FileFault
-answered (tried.Status status) = Ok status
-answered tried.Failed = Err faults.Device
-answered tried.NoMemory = Err faults.NoMemory
 
 -- ---- the bench then
 

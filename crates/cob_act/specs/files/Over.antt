@@ -17,7 +17,7 @@ use Rattle.file_model.specs.operations.Seen.{Seen}
 use Rattle.file_model.specs.operations.Standing.{Stands, TellUsed}
 use Rattle.file_model.specs.operations.Shutting.{StandsLeft}
 use Rattle.cob_act.specs.files.Ends.{ended_as, gone_by}
-use Rattle.cob_act.specs.declared.files.fault.FileFault.{FileFault}
+use Rattle.file_model.specs.declared.operations.fault.FileFault.{FileFault}
 
 -- the devices that the files of a program use tell their files, and the files of the program stand
 -- over them in a world

@@ -7,7 +7,7 @@ use Rattle.cob_act.specs.declared.files.work.FileVerb.{FileVerb}
 use Rattle.cob_act.specs.declared.files.work.FileVerb.TheVariants as verbs
 use Rattle.cob_act.specs.declared.files.work.FileDone.{FileDone}
 use Rattle.cob_act.specs.declared.files.work.FileWork.{FileWork}
-use Rattle.cob_act.specs.declared.files.fault.FileFault.{FileFault}
+use Rattle.file_model.specs.declared.operations.fault.FileFault.{FileFault}
 
 -- what is done with a file, as the model has it
 abbrev pub verb_seen : FileVerb → Verb
@@ -44,7 +44,7 @@ Keeps (Ok a) old new operations =
     IsTrue old.keeps → old.done.items ≡ [] → events_kept new ≡ events_made operations
 Keeps (Err fault) old new operations = Unit {0}
 
--- it kept its operations behind those that were kept before
+-- it kept its operations after those that were kept before
 abbrev pub KeepsMore : {A : Type 0} → Result A FileFault → (old new : FileWork) →
     List Operation → Type 0
 KeepsMore (Ok a) old new operations =

@@ -1,6 +1,6 @@
 //! OPEN, CLOSE, READ, WRITE and REWRITE.
 
-ghost use Rattle.std.specs.Prelude.{◌≡◌, ◌⊎◌, ◌<◌, ◌≤◌, ◌==◌, ◌&&◌, [], ◌∷◌, IfErr, IfOk, IsTrue, None, Ok, if◌then◌else◌, length, map, option_copied, slice_get, take, vec_capacity, vec_len};
+ghost use Rattle.std.specs.Prelude.{◌≡◌, ◌⊎◌, ◌<◌, ◌≤◌, ◌==◌, ◌&&◌, [], ◌∷◌, IfErr, IfOk, IsTrue, None, Ok, if◌then◌else◌, length, option_copied, slice_get, vec_capacity, vec_len};
 ghost use Rattle.cob_store.specs.Store.{fitted, put_at};
 ghost use Rattle.file_model.specs.Attempts.{read_at};
 ghost use Rattle.file_model.specs.World.{World};
@@ -12,15 +12,14 @@ ghost use Rattle.cob_act.specs.files.Work.{Keeps, KeepsMore};
 
 use crate::ActOutcome;
 use crate::files::desk::{close, open, read, rewrite, write};
-use crate::files::fault::FileFault;
 use crate::files::record::{file_of, moved_into, moved_out, record_spot, take_record};
 use crate::files::status::{settled, status_spot};
 use crate::files::work::{FileVerb, FileWork};
 use cob_base::NoMemory;
 use cob_store::{Areas, Spot, Store};
 use cob_tree::{Abend, FileEntry, Opening, Operand, Place, Program};
-use file_model::operations::Watched;
-use file_model::{Bench, Device, FileTable};
+use file_model::operations::{FileFault, Shown};
+use file_model::{Bench, FileTable};
 
 // OPEN of one file.
 #[tactic(auto, using(crate::proofs::files_lemmas::DeskLemmas::one_operation))]
@@ -34,24 +33,18 @@ fn opened(
     work: &mut FileWork,
 ) -> Result<ActOutcome, FileFault>
     ensures bench { DoneOver result program.now.files bench.old.left bench.new.left
-        (map ⟦<Box<dyn Device> as Watched>⟧.seen bench.old.devices.items)
-        (map ⟦<Box<dyn Device> as Watched>⟧.seen bench.new.devices.items) table.new.rows }
-    ensures does { (world : World) → IsOver program.now.files
-        (take bench.old.left (map ⟦<Box<dyn Device> as Watched>⟧.seen bench.old.devices.items))
+        (⟦<Bench as Shown>⟧.all bench.old) (⟦<Bench as Shown>⟧.all bench.new) table.new.rows }
+    ensures does { (world : World) → IsOver program.now.files (⟦<Bench as Shown>⟧.on bench.old)
         table.old.rows world →
         Did program.now.files result world
         (opened (declared_with program.now areas.now) store.old world opening)
-        store.new
-        (take bench.new.left (map ⟦<Box<dyn Device> as Watched>⟧.seen bench.new.devices.items))
-        table.new.rows }
-    ensures breaks { (world : World) → IsOver program.now.files
-        (take bench.old.left (map ⟦<Box<dyn Device> as Watched>⟧.seen bench.old.devices.items))
+        store.new (⟦<Bench as Shown>⟧.on bench.new) table.new.rows }
+    ensures breaks { (world : World) → IsOver program.now.files (⟦<Bench as Shown>⟧.on bench.old)
         table.old.rows world →
         Stays result program.now.files world bench.new.left
-        (map ⟦<Box<dyn Device> as Watched>⟧.seen bench.new.devices.items) table.new.rows }
+        (⟦<Bench as Shown>⟧.all bench.new) table.new.rows }
     ensures kept { IfErr result (λ fault. store.new ≡ store.old) }
-    ensures logged { (world : World) → IsOver program.now.files
-        (take bench.old.left (map ⟦<Box<dyn Device> as Watched>⟧.seen bench.old.devices.items))
+    ensures logged { (world : World) → IsOver program.now.files (⟦<Bench as Shown>⟧.on bench.old)
         table.old.rows world → KeepsMore result work.old work.new
         (opened (declared_with program.now areas.now) store.old world opening).operations }
     ensures keeps { work.new.keeps ≡ work.old.keeps }
@@ -79,35 +72,28 @@ pub fn all_opened(
 ) -> Result<ActOutcome, FileFault>
     requires within { bench.old.left ≤ vec_len bench.old.devices }
     ensures bench { DoneOver result program.now.files bench.old.left bench.new.left
-        (map ⟦<Box<dyn Device> as Watched>⟧.seen bench.old.devices.items)
-        (map ⟦<Box<dyn Device> as Watched>⟧.seen bench.new.devices.items) table.new.rows }
-    ensures does { (world : World) → IsOver program.now.files
-        (take bench.old.left (map ⟦<Box<dyn Device> as Watched>⟧.seen bench.old.devices.items))
+        (⟦<Bench as Shown>⟧.all bench.old) (⟦<Bench as Shown>⟧.all bench.new) table.new.rows }
+    ensures does { (world : World) → IsOver program.now.files (⟦<Bench as Shown>⟧.on bench.old)
         table.old.rows world →
         Did program.now.files result world
         (each_file (opened (declared_with program.now areas.now)) store.old world openings.now)
-        store.new
-        (take bench.new.left (map ⟦<Box<dyn Device> as Watched>⟧.seen bench.new.devices.items))
-        table.new.rows }
-    ensures breaks { (world : World) → IsOver program.now.files
-        (take bench.old.left (map ⟦<Box<dyn Device> as Watched>⟧.seen bench.old.devices.items))
+        store.new (⟦<Bench as Shown>⟧.on bench.new) table.new.rows }
+    ensures breaks { (world : World) → IsOver program.now.files (⟦<Bench as Shown>⟧.on bench.old)
         table.old.rows world →
         BreaksIn result program.now.files world
         (each_file (opened (declared_with program.now areas.now)) store.old world openings.now)
-        bench.new.left
-        (map ⟦<Box<dyn Device> as Watched>⟧.seen bench.new.devices.items) table.new.rows }
+        bench.new.left (⟦<Bench as Shown>⟧.all bench.new) table.new.rows }
 
     // the store is as those before the one that broke off left it
-    ensures kept { (world : World) → IsOver program.now.files
-        (take bench.old.left (map ⟦<Box<dyn Device> as Watched>⟧.seen bench.old.devices.items))
+    ensures kept { (world : World) → IsOver program.now.files (⟦<Bench as Shown>⟧.on bench.old)
         table.old.rows world → IfErr result (λ fault. StopsAmong
         (opened (declared_with program.now areas.now))
         (each_file (opened (declared_with program.now areas.now)) store.old world openings.now)
         world openings.now store.new) }
-    ensures logged { (world : World) → IsOver program.now.files
-        (take bench.old.left (map ⟦<Box<dyn Device> as Watched>⟧.seen bench.old.devices.items))
+    ensures logged { (world : World) → IsOver program.now.files (⟦<Bench as Shown>⟧.on bench.old)
         table.old.rows world → Keeps result work.old work.new
-        (each_file (opened (declared_with program.now areas.now)) store.old world openings.now).operations }
+        (each_file (opened (declared_with program.now areas.now)) store.old world
+        openings.now).operations }
     ensures keeps { work.new.keeps ≡ work.old.keeps }
 {
     for opening in openings {
@@ -132,24 +118,18 @@ fn shut(
     work: &mut FileWork,
 ) -> Result<ActOutcome, FileFault>
     ensures bench { DoneOver result program.now.files bench.old.left bench.new.left
-        (map ⟦<Box<dyn Device> as Watched>⟧.seen bench.old.devices.items)
-        (map ⟦<Box<dyn Device> as Watched>⟧.seen bench.new.devices.items) table.new.rows }
-    ensures does { (world : World) → IsOver program.now.files
-        (take bench.old.left (map ⟦<Box<dyn Device> as Watched>⟧.seen bench.old.devices.items))
+        (⟦<Bench as Shown>⟧.all bench.old) (⟦<Bench as Shown>⟧.all bench.new) table.new.rows }
+    ensures does { (world : World) → IsOver program.now.files (⟦<Bench as Shown>⟧.on bench.old)
         table.old.rows world →
         Did program.now.files result world
         (shut (declared_with program.now areas.now) store.old world file)
-        store.new
-        (take bench.new.left (map ⟦<Box<dyn Device> as Watched>⟧.seen bench.new.devices.items))
-        table.new.rows }
-    ensures breaks { (world : World) → IsOver program.now.files
-        (take bench.old.left (map ⟦<Box<dyn Device> as Watched>⟧.seen bench.old.devices.items))
+        store.new (⟦<Bench as Shown>⟧.on bench.new) table.new.rows }
+    ensures breaks { (world : World) → IsOver program.now.files (⟦<Bench as Shown>⟧.on bench.old)
         table.old.rows world →
         Stays result program.now.files world bench.new.left
-        (map ⟦<Box<dyn Device> as Watched>⟧.seen bench.new.devices.items) table.new.rows }
+        (⟦<Bench as Shown>⟧.all bench.new) table.new.rows }
     ensures kept { IfErr result (λ fault. store.new ≡ store.old) }
-    ensures logged { (world : World) → IsOver program.now.files
-        (take bench.old.left (map ⟦<Box<dyn Device> as Watched>⟧.seen bench.old.devices.items))
+    ensures logged { (world : World) → IsOver program.now.files (⟦<Bench as Shown>⟧.on bench.old)
         table.old.rows world → KeepsMore result work.old work.new
         (shut (declared_with program.now areas.now) store.old world file).operations }
     ensures keeps { work.new.keeps ≡ work.old.keeps }
@@ -177,35 +157,28 @@ pub fn all_shut(
 ) -> Result<ActOutcome, FileFault>
     requires within { bench.old.left ≤ vec_len bench.old.devices }
     ensures bench { DoneOver result program.now.files bench.old.left bench.new.left
-        (map ⟦<Box<dyn Device> as Watched>⟧.seen bench.old.devices.items)
-        (map ⟦<Box<dyn Device> as Watched>⟧.seen bench.new.devices.items) table.new.rows }
-    ensures does { (world : World) → IsOver program.now.files
-        (take bench.old.left (map ⟦<Box<dyn Device> as Watched>⟧.seen bench.old.devices.items))
+        (⟦<Bench as Shown>⟧.all bench.old) (⟦<Bench as Shown>⟧.all bench.new) table.new.rows }
+    ensures does { (world : World) → IsOver program.now.files (⟦<Bench as Shown>⟧.on bench.old)
         table.old.rows world →
         Did program.now.files result world
         (each_file (shut (declared_with program.now areas.now)) store.old world files.now)
-        store.new
-        (take bench.new.left (map ⟦<Box<dyn Device> as Watched>⟧.seen bench.new.devices.items))
-        table.new.rows }
-    ensures breaks { (world : World) → IsOver program.now.files
-        (take bench.old.left (map ⟦<Box<dyn Device> as Watched>⟧.seen bench.old.devices.items))
+        store.new (⟦<Bench as Shown>⟧.on bench.new) table.new.rows }
+    ensures breaks { (world : World) → IsOver program.now.files (⟦<Bench as Shown>⟧.on bench.old)
         table.old.rows world →
         BreaksIn result program.now.files world
         (each_file (shut (declared_with program.now areas.now)) store.old world files.now)
-        bench.new.left
-        (map ⟦<Box<dyn Device> as Watched>⟧.seen bench.new.devices.items) table.new.rows }
+        bench.new.left (⟦<Bench as Shown>⟧.all bench.new) table.new.rows }
 
     // the store is as those before the one that broke off left it
-    ensures kept { (world : World) → IsOver program.now.files
-        (take bench.old.left (map ⟦<Box<dyn Device> as Watched>⟧.seen bench.old.devices.items))
+    ensures kept { (world : World) → IsOver program.now.files (⟦<Bench as Shown>⟧.on bench.old)
         table.old.rows world → IfErr result (λ fault. StopsAmong
         (shut (declared_with program.now areas.now))
         (each_file (shut (declared_with program.now areas.now)) store.old world files.now)
         world files.now store.new) }
-    ensures logged { (world : World) → IsOver program.now.files
-        (take bench.old.left (map ⟦<Box<dyn Device> as Watched>⟧.seen bench.old.devices.items))
+    ensures logged { (world : World) → IsOver program.now.files (⟦<Bench as Shown>⟧.on bench.old)
         table.old.rows world → Keeps result work.old work.new
-        (each_file (shut (declared_with program.now areas.now)) store.old world files.now).operations }
+        (each_file (shut (declared_with program.now areas.now)) store.old world
+        files.now).operations }
     ensures keeps { work.new.keeps ≡ work.old.keeps }
 {
     for file in files {
@@ -291,25 +264,20 @@ fn next_record(
     size: usize,
 ) -> Result<u8, FileFault>
     ensures bench { DoneOver result files.now bench.old.left bench.new.left
-        (map ⟦<Box<dyn Device> as Watched>⟧.seen bench.old.devices.items)
-        (map ⟦<Box<dyn Device> as Watched>⟧.seen bench.new.devices.items) table.new.rows }
-    ensures does { (world : World) → IsOver files.now
-        (take bench.old.left (map ⟦<Box<dyn Device> as Watched>⟧.seen bench.old.devices.items))
+        (⟦<Bench as Shown>⟧.all bench.old) (⟦<Bench as Shown>⟧.all bench.new) table.new.rows }
+    ensures does { (world : World) → IsOver files.now (⟦<Bench as Shown>⟧.on bench.old)
         table.old.rows world →
         Tries files.now result
         (read_at world file (address_by (slice_get files.now file)) size)
-        (take bench.new.left (map ⟦<Box<dyn Device> as Watched>⟧.seen bench.new.devices.items))
-        table.new.rows }
-    ensures came { (world : World) → IsOver files.now
-        (take bench.old.left (map ⟦<Box<dyn Device> as Watched>⟧.seen bench.old.devices.items))
+        (⟦<Bench as Shown>⟧.on bench.new) table.new.rows }
+    ensures came { (world : World) → IsOver files.now (⟦<Bench as Shown>⟧.on bench.old)
         table.old.rows world → result ≡ Ok 0 → work.new.bytes.items
         ≡ (read_at world file (address_by (slice_get files.now file)) size).bytes }
     ensures room { IfOk result (λ status. length work.new.bytes.items ≡ size) }
-    ensures breaks { (world : World) → IsOver files.now
-        (take bench.old.left (map ⟦<Box<dyn Device> as Watched>⟧.seen bench.old.devices.items))
+    ensures breaks { (world : World) → IsOver files.now (⟦<Bench as Shown>⟧.on bench.old)
         table.old.rows world →
         Stays result files.now world bench.new.left
-        (map ⟦<Box<dyn Device> as Watched>⟧.seen bench.new.devices.items) table.new.rows }
+        (⟦<Bench as Shown>⟧.all bench.new) table.new.rows }
     ensures logged { IfOk result (λ status. IsTrue work.old.keeps → work.old.done.items ≡ [] →
         work.new.done.items ≡ record { verb = FileVerb.Read; file = file; status = status } ∷ []) }
     ensures keeps { work.new.keeps ≡ work.old.keeps }
@@ -341,34 +309,26 @@ pub fn read_one(
 ) -> Result<ActOutcome, FileFault>
     requires within { bench.old.left ≤ vec_len bench.old.devices }
     ensures bench { DoneOver result program.now.files bench.old.left bench.new.left
-        (map ⟦<Box<dyn Device> as Watched>⟧.seen bench.old.devices.items)
-        (map ⟦<Box<dyn Device> as Watched>⟧.seen bench.new.devices.items) table.new.rows }
-    ensures does { (world : World) → IsOver program.now.files
-        (take bench.old.left (map ⟦<Box<dyn Device> as Watched>⟧.seen bench.old.devices.items))
+        (⟦<Bench as Shown>⟧.all bench.old) (⟦<Bench as Shown>⟧.all bench.new) table.new.rows }
+    ensures does { (world : World) → IsOver program.now.files (⟦<Bench as Shown>⟧.on bench.old)
         table.old.rows world →
         Did program.now.files result world
         (read (declared_with program.now areas.now) store.old world reading.entry.file
         (option_copied reading.entry.into) reading.entry.at_end reading.entry.arms)
-        store.new
-        (take bench.new.left (map ⟦<Box<dyn Device> as Watched>⟧.seen bench.new.devices.items))
-        table.new.rows }
-    ensures breaks { (world : World) → IsOver program.now.files
-        (take bench.old.left (map ⟦<Box<dyn Device> as Watched>⟧.seen bench.old.devices.items))
+        store.new (⟦<Bench as Shown>⟧.on bench.new) table.new.rows }
+    ensures breaks { (world : World) → IsOver program.now.files (⟦<Bench as Shown>⟧.on bench.old)
         table.old.rows world →
         BreaksIn result program.now.files world
         (read (declared_with program.now areas.now) store.old world reading.entry.file
         (option_copied reading.entry.into) reading.entry.at_end reading.entry.arms)
-        bench.new.left
-        (map ⟦<Box<dyn Device> as Watched>⟧.seen bench.new.devices.items) table.new.rows }
+        bench.new.left (⟦<Bench as Shown>⟧.all bench.new) table.new.rows }
 
     // the store is as it was, or as without INTO
-    ensures kept { (world : World) → IsOver program.now.files
-        (take bench.old.left (map ⟦<Box<dyn Device> as Watched>⟧.seen bench.old.devices.items))
+    ensures kept { (world : World) → IsOver program.now.files (⟦<Bench as Shown>⟧.on bench.old)
         table.old.rows world → IfErr result (λ fault. (store.new ≡ store.old) ⊎ (store.new
         ≡ (read (declared_with program.now areas.now) store.old world reading.entry.file
         None reading.entry.at_end reading.entry.arms).store)) }
-    ensures logged { (world : World) → IsOver program.now.files
-        (take bench.old.left (map ⟦<Box<dyn Device> as Watched>⟧.seen bench.old.devices.items))
+    ensures logged { (world : World) → IsOver program.now.files (⟦<Bench as Shown>⟧.on bench.old)
         table.old.rows world → Keeps result work.old work.new
         (read (declared_with program.now areas.now) store.old world reading.entry.file
         (option_copied reading.entry.into) reading.entry.at_end reading.entry.arms).operations }
@@ -447,32 +407,25 @@ pub fn written(
 ) -> Result<ActOutcome, FileFault>
     requires within { bench.old.left ≤ vec_len bench.old.devices }
     ensures bench { DoneOver result program.now.files bench.old.left bench.new.left
-        (map ⟦<Box<dyn Device> as Watched>⟧.seen bench.old.devices.items)
-        (map ⟦<Box<dyn Device> as Watched>⟧.seen bench.new.devices.items) table.new.rows }
-    ensures does { (world : World) → IsOver program.now.files
-        (take bench.old.left (map ⟦<Box<dyn Device> as Watched>⟧.seen bench.old.devices.items))
+        (⟦<Bench as Shown>⟧.all bench.old) (⟦<Bench as Shown>⟧.all bench.new) table.new.rows }
+    ensures does { (world : World) → IsOver program.now.files (⟦<Bench as Shown>⟧.on bench.old)
         table.old.rows world →
         Did program.now.files result world
         (written (declared_with program.now areas.now) store.old world writing.entry.entry
         (option_copied writing.entry.from))
-        store.new
-        (take bench.new.left (map ⟦<Box<dyn Device> as Watched>⟧.seen bench.new.devices.items))
-        table.new.rows }
-    ensures breaks { (world : World) → IsOver program.now.files
-        (take bench.old.left (map ⟦<Box<dyn Device> as Watched>⟧.seen bench.old.devices.items))
+        store.new (⟦<Bench as Shown>⟧.on bench.new) table.new.rows }
+    ensures breaks { (world : World) → IsOver program.now.files (⟦<Bench as Shown>⟧.on bench.old)
         table.old.rows world →
         BreaksIn result program.now.files world
         (written (declared_with program.now areas.now) store.old world writing.entry.entry
         (option_copied writing.entry.from))
-        bench.new.left
-        (map ⟦<Box<dyn Device> as Watched>⟧.seen bench.new.devices.items) table.new.rows }
+        bench.new.left (⟦<Bench as Shown>⟧.all bench.new) table.new.rows }
 
     // the store is as it was, or as FROM left it
     ensures kept { IfErr result (λ fault. MovedFrom
         (from_by (declared_with program.now areas.now) writing.entry.entry store.old
         (option_copied writing.entry.from)) store.old store.new) }
-    ensures logged { (world : World) → IsOver program.now.files
-        (take bench.old.left (map ⟦<Box<dyn Device> as Watched>⟧.seen bench.old.devices.items))
+    ensures logged { (world : World) → IsOver program.now.files (⟦<Bench as Shown>⟧.on bench.old)
         table.old.rows world → Keeps result work.old work.new
         (written (declared_with program.now areas.now) store.old world writing.entry.entry
         (option_copied writing.entry.from)).operations }
@@ -503,32 +456,25 @@ pub fn rewritten(
 ) -> Result<ActOutcome, FileFault>
     requires within { bench.old.left ≤ vec_len bench.old.devices }
     ensures bench { DoneOver result program.now.files bench.old.left bench.new.left
-        (map ⟦<Box<dyn Device> as Watched>⟧.seen bench.old.devices.items)
-        (map ⟦<Box<dyn Device> as Watched>⟧.seen bench.new.devices.items) table.new.rows }
-    ensures does { (world : World) → IsOver program.now.files
-        (take bench.old.left (map ⟦<Box<dyn Device> as Watched>⟧.seen bench.old.devices.items))
+        (⟦<Bench as Shown>⟧.all bench.old) (⟦<Bench as Shown>⟧.all bench.new) table.new.rows }
+    ensures does { (world : World) → IsOver program.now.files (⟦<Bench as Shown>⟧.on bench.old)
         table.old.rows world →
         Did program.now.files result world
         (rewritten (declared_with program.now areas.now) store.old world writing.entry.entry
         (option_copied writing.entry.from))
-        store.new
-        (take bench.new.left (map ⟦<Box<dyn Device> as Watched>⟧.seen bench.new.devices.items))
-        table.new.rows }
-    ensures breaks { (world : World) → IsOver program.now.files
-        (take bench.old.left (map ⟦<Box<dyn Device> as Watched>⟧.seen bench.old.devices.items))
+        store.new (⟦<Bench as Shown>⟧.on bench.new) table.new.rows }
+    ensures breaks { (world : World) → IsOver program.now.files (⟦<Bench as Shown>⟧.on bench.old)
         table.old.rows world →
         BreaksIn result program.now.files world
         (rewritten (declared_with program.now areas.now) store.old world writing.entry.entry
         (option_copied writing.entry.from))
-        bench.new.left
-        (map ⟦<Box<dyn Device> as Watched>⟧.seen bench.new.devices.items) table.new.rows }
+        bench.new.left (⟦<Bench as Shown>⟧.all bench.new) table.new.rows }
 
     // the store is as it was, or as FROM left it
     ensures kept { IfErr result (λ fault. MovedFrom
         (from_by (declared_with program.now areas.now) writing.entry.entry store.old
         (option_copied writing.entry.from)) store.old store.new) }
-    ensures logged { (world : World) → IsOver program.now.files
-        (take bench.old.left (map ⟦<Box<dyn Device> as Watched>⟧.seen bench.old.devices.items))
+    ensures logged { (world : World) → IsOver program.now.files (⟦<Bench as Shown>⟧.on bench.old)
         table.old.rows world → Keeps result work.old work.new
         (rewritten (declared_with program.now areas.now) store.old world writing.entry.entry
         (option_copied writing.entry.from)).operations }

@@ -1,7 +1,7 @@
 //! The operations on files, by their number. A file that the program doesn't have is never open,
 //! and has no name.
 
-ghost use Rattle.std.specs.Prelude.{ℕ, List, ◌≡◌, ◌<◌, ◌≤◌, ◌^◌, IsTrue, Ok, length, map, slice_get, take, vec_len};
+ghost use Rattle.std.specs.Prelude.{ℕ, List, ◌≡◌, ◌<◌, ◌≤◌, ◌^◌, IsTrue, Ok, length, slice_get, vec_len};
 ghost use Rattle.file_model.specs.Attempts.{closed_at, opened_at, read_at, rewritten_at, written_at};
 ghost use Rattle.file_model.specs.World.{World};
 ghost use Rattle.file_model.specs.operations.Calls.{addresses_of};
@@ -9,23 +9,12 @@ ghost use Rattle.file_model.specs.operations.Falling.{AreShut, LeftOf, is_used};
 ghost use Rattle.file_model.specs.operations.Seen.{Seen};
 ghost use Rattle.file_model.specs.operations.Shutting.{Closes};
 ghost use Rattle.meanings.specs.statements.Filing.{address_by};
-ghost use Rattle.cob_act.specs.files.Ends.{DoneOver, answered};
+ghost use Rattle.cob_act.specs.files.Ends.{DoneOver};
 ghost use Rattle.cob_act.specs.files.Over.{IsOver, Stays, Tries};
 
-use crate::files::fault::FileFault;
 use cob_tree::{FileEntry, Opening};
-use file_model::operations::{Tried, Watched};
-use file_model::{Bench, Device, FileTable};
-
-fn status_of(tried: Tried) -> Result<u8, FileFault>
-    ensures { result ≡ answered tried }
-{
-    match tried {
-        Tried::Status(status) => Ok(status),
-        Tried::Failed => Err(FileFault::Device),
-        Tried::NoMemory => Err(FileFault::NoMemory),
-    }
-}
+use file_model::operations::{FileFault, Shown};
+use file_model::{Bench, FileTable};
 
 // Whether the table has a row for each file.
 fn has_rows(table: &FileTable, files: &[FileEntry]) -> bool
@@ -56,26 +45,21 @@ pub fn open(
     opening: Opening,
 ) -> Result<u8, FileFault>
     ensures bench { DoneOver result files.now bench.old.left bench.new.left
-        (map ⟦<Box<dyn Device> as Watched>⟧.seen bench.old.devices.items)
-        (map ⟦<Box<dyn Device> as Watched>⟧.seen bench.new.devices.items) table.new.rows }
-    ensures does { (world : World) → IsOver files.now
-        (take bench.old.left (map ⟦<Box<dyn Device> as Watched>⟧.seen bench.old.devices.items))
+        (⟦<Bench as Shown>⟧.all bench.old) (⟦<Bench as Shown>⟧.all bench.new) table.new.rows }
+    ensures does { (world : World) → IsOver files.now (⟦<Bench as Shown>⟧.on bench.old)
         table.old.rows world →
         Tries files.now result (opened_at world (addresses_of files.now) opening.file
         (address_by (slice_get files.now opening.file)) opening.how)
-        (take bench.new.left (map ⟦<Box<dyn Device> as Watched>⟧.seen bench.new.devices.items))
-        table.new.rows }
-    ensures breaks { (world : World) → IsOver files.now
-        (take bench.old.left (map ⟦<Box<dyn Device> as Watched>⟧.seen bench.old.devices.items))
+        (⟦<Bench as Shown>⟧.on bench.new) table.new.rows }
+    ensures breaks { (world : World) → IsOver files.now (⟦<Bench as Shown>⟧.on bench.old)
         table.old.rows world →
         Stays result files.now world bench.new.left
-        (map ⟦<Box<dyn Device> as Watched>⟧.seen bench.new.devices.items) table.new.rows }
+        (⟦<Bench as Shown>⟧.all bench.new) table.new.rows }
 {
     if !has_row(table, files, opening.file) {
         return Ok(30);
     }
-    let tried = file_model::operations::open(bench, table, files, opening.file, opening.how);
-    status_of(tried)
+    file_model::operations::open(bench, table, files, opening.file, opening.how)
 }
 
 /// CLOSE of a file: its status, or why it broke off.
@@ -86,25 +70,20 @@ pub fn close(
     file: u32,
 ) -> Result<u8, FileFault>
     ensures bench { DoneOver result files.now bench.old.left bench.new.left
-        (map ⟦<Box<dyn Device> as Watched>⟧.seen bench.old.devices.items)
-        (map ⟦<Box<dyn Device> as Watched>⟧.seen bench.new.devices.items) table.new.rows }
-    ensures does { (world : World) → IsOver files.now
-        (take bench.old.left (map ⟦<Box<dyn Device> as Watched>⟧.seen bench.old.devices.items))
+        (⟦<Bench as Shown>⟧.all bench.old) (⟦<Bench as Shown>⟧.all bench.new) table.new.rows }
+    ensures does { (world : World) → IsOver files.now (⟦<Bench as Shown>⟧.on bench.old)
         table.old.rows world →
-        Tries files.now result (closed_at world file)
-        (take bench.new.left (map ⟦<Box<dyn Device> as Watched>⟧.seen bench.new.devices.items))
+        Tries files.now result (closed_at world file) (⟦<Bench as Shown>⟧.on bench.new)
         table.new.rows }
-    ensures breaks { (world : World) → IsOver files.now
-        (take bench.old.left (map ⟦<Box<dyn Device> as Watched>⟧.seen bench.old.devices.items))
+    ensures breaks { (world : World) → IsOver files.now (⟦<Bench as Shown>⟧.on bench.old)
         table.old.rows world →
         Stays result files.now world bench.new.left
-        (map ⟦<Box<dyn Device> as Watched>⟧.seen bench.new.devices.items) table.new.rows }
+        (⟦<Bench as Shown>⟧.all bench.new) table.new.rows }
 {
     if !has_row(table, files, file) {
         return Ok(42);
     }
-    let tried = file_model::operations::close(bench, table, files, file);
-    status_of(tried)
+    file_model::operations::close(bench, table, files, file)
 }
 
 /// READ of a file into `into`: its status, or why it broke off.
@@ -116,31 +95,25 @@ pub fn read(
     into: &mut [u8],
 ) -> Result<u8, FileFault>
     ensures bench { DoneOver result files.now bench.old.left bench.new.left
-        (map ⟦<Box<dyn Device> as Watched>⟧.seen bench.old.devices.items)
-        (map ⟦<Box<dyn Device> as Watched>⟧.seen bench.new.devices.items) table.new.rows }
-    ensures does { (world : World) → IsOver files.now
-        (take bench.old.left (map ⟦<Box<dyn Device> as Watched>⟧.seen bench.old.devices.items))
+        (⟦<Bench as Shown>⟧.all bench.old) (⟦<Bench as Shown>⟧.all bench.new) table.new.rows }
+    ensures does { (world : World) → IsOver files.now (⟦<Bench as Shown>⟧.on bench.old)
         table.old.rows world →
         Tries files.now result
         (read_at world file (address_by (slice_get files.now file)) (length into.old))
-        (take bench.new.left (map ⟦<Box<dyn Device> as Watched>⟧.seen bench.new.devices.items))
-        table.new.rows }
-    ensures record { (world : World) → IsOver files.now
-        (take bench.old.left (map ⟦<Box<dyn Device> as Watched>⟧.seen bench.old.devices.items))
+        (⟦<Bench as Shown>⟧.on bench.new) table.new.rows }
+    ensures record { (world : World) → IsOver files.now (⟦<Bench as Shown>⟧.on bench.old)
         table.old.rows world → result ≡ Ok 0 →
         into.new ≡ (read_at world file (address_by (slice_get files.now file))
         (length into.old)).bytes }
-    ensures breaks { (world : World) → IsOver files.now
-        (take bench.old.left (map ⟦<Box<dyn Device> as Watched>⟧.seen bench.old.devices.items))
+    ensures breaks { (world : World) → IsOver files.now (⟦<Bench as Shown>⟧.on bench.old)
         table.old.rows world →
         Stays result files.now world bench.new.left
-        (map ⟦<Box<dyn Device> as Watched>⟧.seen bench.new.devices.items) table.new.rows }
+        (⟦<Bench as Shown>⟧.all bench.new) table.new.rows }
 {
     if !has_row(table, files, file) {
         return Ok(47);
     }
-    let tried = file_model::operations::read(bench, table, files, file, into);
-    status_of(tried)
+    file_model::operations::read(bench, table, files, file, into)
 }
 
 /// WRITE of a record: its status, or why it broke off.
@@ -152,26 +125,21 @@ pub fn write(
     bytes: &[u8],
 ) -> Result<u8, FileFault>
     ensures bench { DoneOver result files.now bench.old.left bench.new.left
-        (map ⟦<Box<dyn Device> as Watched>⟧.seen bench.old.devices.items)
-        (map ⟦<Box<dyn Device> as Watched>⟧.seen bench.new.devices.items) table.new.rows }
-    ensures does { (world : World) → IsOver files.now
-        (take bench.old.left (map ⟦<Box<dyn Device> as Watched>⟧.seen bench.old.devices.items))
+        (⟦<Bench as Shown>⟧.all bench.old) (⟦<Bench as Shown>⟧.all bench.new) table.new.rows }
+    ensures does { (world : World) → IsOver files.now (⟦<Bench as Shown>⟧.on bench.old)
         table.old.rows world →
         Tries files.now result
         (written_at world file (address_by (slice_get files.now file)) bytes.now)
-        (take bench.new.left (map ⟦<Box<dyn Device> as Watched>⟧.seen bench.new.devices.items))
-        table.new.rows }
-    ensures breaks { (world : World) → IsOver files.now
-        (take bench.old.left (map ⟦<Box<dyn Device> as Watched>⟧.seen bench.old.devices.items))
+        (⟦<Bench as Shown>⟧.on bench.new) table.new.rows }
+    ensures breaks { (world : World) → IsOver files.now (⟦<Bench as Shown>⟧.on bench.old)
         table.old.rows world →
         Stays result files.now world bench.new.left
-        (map ⟦<Box<dyn Device> as Watched>⟧.seen bench.new.devices.items) table.new.rows }
+        (⟦<Bench as Shown>⟧.all bench.new) table.new.rows }
 {
     if !has_row(table, files, file) {
         return Ok(48);
     }
-    let tried = file_model::operations::write(bench, table, files, file, bytes);
-    status_of(tried)
+    file_model::operations::write(bench, table, files, file, bytes)
 }
 
 /// REWRITE of a record: its status, or why it broke off.
@@ -183,26 +151,21 @@ pub fn rewrite(
     bytes: &[u8],
 ) -> Result<u8, FileFault>
     ensures bench { DoneOver result files.now bench.old.left bench.new.left
-        (map ⟦<Box<dyn Device> as Watched>⟧.seen bench.old.devices.items)
-        (map ⟦<Box<dyn Device> as Watched>⟧.seen bench.new.devices.items) table.new.rows }
-    ensures does { (world : World) → IsOver files.now
-        (take bench.old.left (map ⟦<Box<dyn Device> as Watched>⟧.seen bench.old.devices.items))
+        (⟦<Bench as Shown>⟧.all bench.old) (⟦<Bench as Shown>⟧.all bench.new) table.new.rows }
+    ensures does { (world : World) → IsOver files.now (⟦<Bench as Shown>⟧.on bench.old)
         table.old.rows world →
         Tries files.now result
         (rewritten_at world file (address_by (slice_get files.now file)) bytes.now)
-        (take bench.new.left (map ⟦<Box<dyn Device> as Watched>⟧.seen bench.new.devices.items))
-        table.new.rows }
-    ensures breaks { (world : World) → IsOver files.now
-        (take bench.old.left (map ⟦<Box<dyn Device> as Watched>⟧.seen bench.old.devices.items))
+        (⟦<Bench as Shown>⟧.on bench.new) table.new.rows }
+    ensures breaks { (world : World) → IsOver files.now (⟦<Bench as Shown>⟧.on bench.old)
         table.old.rows world →
         Stays result files.now world bench.new.left
-        (map ⟦<Box<dyn Device> as Watched>⟧.seen bench.new.devices.items) table.new.rows }
+        (⟦<Bench as Shown>⟧.all bench.new) table.new.rows }
 {
     if !has_row(table, files, file) {
         return Ok(49);
     }
-    let tried = file_model::operations::rewrite(bench, table, files, file, bytes);
-    status_of(tried)
+    file_model::operations::rewrite(bench, table, files, file, bytes)
 }
 
 /// Closes the files that are open, on the devices that are left, and says whether one failed.
@@ -212,10 +175,9 @@ pub fn close_left(bench: &mut Bench, table: &mut FileTable, files: &[FileEntry])
         (gone : List (List ℕ)) (left : ℕ) (old : List Seen) →
         AreShut gone (addresses_of files.now) table.old.rows →
         LeftOf (is_used (addresses_of files.now)) gone left bench.old.left old
-        (map ⟦<Box<dyn Device> as Watched>⟧.seen bench.old.devices.items) →
+        (⟦<Bench as Shown>⟧.all bench.old) →
         Closes result (addresses_of files.now) gone left bench.old.left bench.new.left old
-        (map ⟦<Box<dyn Device> as Watched>⟧.seen bench.old.devices.items)
-        (map ⟦<Box<dyn Device> as Watched>⟧.seen bench.new.devices.items) table.old.rows }
+        (⟦<Bench as Shown>⟧.all bench.old) (⟦<Bench as Shown>⟧.all bench.new) table.old.rows }
 {
     has_rows(table, files) && file_model::operations::close_open(bench, table, files)
 }

@@ -6,7 +6,7 @@ ghost use Rattle.cobol_grammar.specs.expr_forms.Side as sides;
 
 use crate::actions::fault::{is_whole, item_of, kind_of};
 use cob_base::{Boxed, Items, NoMemory, Text, Word};
-use cob_tree::{Digits, Expr, Figure, Number, Operand, Place, Sub, Window};
+use cob_tree::{Expr, Figure, Number, Operand, Place, SpelledDigits, Sub, Window};
 use cobol_grammar::expr_forms::{ExprContent, ExprForm, ParsedExpr, Side, ValueKind};
 use parser_combinators::Position;
 use std::alloc::Global;
@@ -107,7 +107,7 @@ pub fn number_of(negative: bool, digits: Text) -> Number
 {
     Number {
         negative,
-        digits: Digits::new(digits),
+        digits: SpelledDigits::new(digits),
         scale: 0,
     }
 }

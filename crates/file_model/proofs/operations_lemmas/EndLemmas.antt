@@ -1,5 +1,5 @@
 -- The ends of an operation, from what its calls promise.
-use Rattle.std.proofs.Common.{◌≡◌, ◌∙◌, ◌++◌, sym, subst, ℕ, ◌<◌, Bool, true, false, List, [], length, take, Option, Some, None, IfSome, IsTrue, is_some, refl, ap, arith, slice_get, slice_set, get_or}
+use Rattle.std.proofs.Common.{◌≡◌, ◌∙◌, ◌++◌, sym, subst, ℕ, ◌<◌, Bool, true, false, List, [], length, take, Option, Some, None, IfSome, IsTrue, is_some, refl, ap, arith, slice_get, slice_set, get_or, Result, Ok, Err}
 use Rattle.std.proofs.lemmas.Option.{slice_get_read, slice_get-map}
 use Rattle.std.specs.Option.{option_map}
 use Rattle.cob_tree.specs.declared.file.FileEntry.{FileEntry}
@@ -10,8 +10,8 @@ use Rattle.file_model.specs.Attempts.{Address, Attempt, address_of, bytes_at, cl
 use Rattle.file_model.specs.Status.{other_row}
 use Rattle.file_model.specs.Told.{Changes}
 use Rattle.file_model.specs.World.{World}
-use Rattle.file_model.specs.declared.operations.tried.Tried.{Tried}
-use Rattle.file_model.specs.declared.operations.tried.Tried.TheVariants as tried
+use Rattle.file_model.specs.declared.operations.fault.FileFault.{FileFault}
+use Rattle.file_model.specs.declared.operations.fault.FileFault.TheVariants as faults
 use Rattle.file_model.specs.operations.Seen.{IsFirstAt, Nowhere, Seen, device_put}
 use Rattle.file_model.specs.operations.Standing.{Stands, rows_closed_on}
 use Rattle.file_model.specs.operations.Calls.{Breaks, Called, Comes, Kept, Leaves, Notes, TakenOff, addresses_of}
@@ -67,15 +67,15 @@ close_tried world file = record { world = with_state world file closed; bytes = 
 
 -- ---- where no device is asked
 
-pub refused_bench : (result : Tried) (status left : ℕ) (name : List ℕ) (devices : List Seen) → result ≡ tried.Status status → Leaves result name left left devices devices
-refused_bench result status left name devices is = subst (λ (r : Tried). Leaves r name left left devices devices) (sym is) (kept_same name left devices)
+pub refused_bench : (result : Result ℕ FileFault) (status left : ℕ) (name : List ℕ) (devices : List Seen) → result ≡ Ok status → Leaves result name left left devices devices
+refused_bench result status left name devices is = subst (λ (r : Result ℕ FileFault). Leaves r name left left devices devices) (sym is) (kept_same name left devices)
 
-pub refused_world : (result : Tried) (addresses : List Address) (devices : List Seen) (name : List ℕ) (table now : List FileRow) (world : World) (file status : ℕ) (may : FileRow → ℕ) (attempt : Attempt) → result ≡ tried.Status status →
+pub refused_world : (result : Result ℕ FileFault) (addresses : List Address) (devices : List Seen) (name : List ℕ) (table now : List FileRow) (world : World) (file status : ℕ) (may : FileRow → ℕ) (attempt : Attempt) → result ≡ Ok status →
     Stands addresses devices table world → file < length table → IfSome (slice_get table file) (λ row. status ≡ may row) → (status ≡ 0 → ⊥) →
     IfSome (slice_get table file) (λ row. now ≡ slice_set table file (other_row row)) →
     Comes result addresses name devices now world (permitted world file (may (state_of world file).row) attempt)
 refused_world result addresses devices name table now world file status may attempt is stands within asked other after =
-    subst (λ (r : Tried). Comes r addresses name devices now world (permitted world file (may (state_of world file).row) attempt)) (sym is)
+    subst (λ (r : Result ℕ FileFault). Comes r addresses name devices now world (permitted world file (may (state_of world file).row) attempt)) (sym is)
     (refused_comes addresses devices name table now world file status may attempt stands within asked other after)
 
 pub row_asked : (table : List FileRow) (file status : ℕ) (may : FileRow → ℕ) → (r : RowAt table file) → IfSome (slice_get table file) (λ row. status ≡ may row) → status ≡ 0 → may r.row ≡ 0
@@ -90,26 +90,26 @@ nowhere_world addresses devices device table world file status address may P ope
 
 -- ---- where the device failed
 
-pub failed_bench : (result : Tried) (old mid new : List Seen) (left left_mid left_now at : ℕ) (name : List ℕ) (Tells : Option (List MemFile) → Option (List MemFile) → Type 0) → result ≡ tried.Failed → left_mid ≡ left →
+pub failed_bench : (result : Result ℕ FileFault) (old mid new : List Seen) (left left_mid left_now at : ℕ) (name : List ℕ) (Tells : Option (List MemFile) → Option (List MemFile) → Type 0) → result ≡ Err faults.Device → left_mid ≡ left →
     IsFirstAt name (take left old) at → Called at Tells true old mid → TakenOff at left_mid left_now mid new → Leaves result name left left_now old new
 failed_bench result old mid new left left_mid left_now at name Tells is same first called taken =
-    subst (λ (r : Tried). Leaves r name left left_now old new) (sym is)
+    subst (λ (r : Result ℕ FileFault). Leaves r name left left_now old new) (sym is)
     (took_off name old mid new left left_now at Tells first called (subst (λ (l : ℕ). TakenOff at l left_now mid new) same taken))
 
-pub failed_world : (result : Tried) (old mid new : List Seen) (left left_mid left_now at : ℕ) (name : List ℕ) (Tells : Option (List MemFile) → Option (List MemFile) → Type 0) (addresses : List Address) (table now : List FileRow) (world : World) (attempt : Attempt) →
-    result ≡ tried.Failed → left_mid ≡ left → IsFirstAt name (take left old) at → Called at Tells true old mid → TakenOff at left_mid left_now mid new →
+pub failed_world : (result : Result ℕ FileFault) (old mid new : List Seen) (left left_mid left_now at : ℕ) (name : List ℕ) (Tells : Option (List MemFile) → Option (List MemFile) → Type 0) (addresses : List Address) (table now : List FileRow) (world : World) (attempt : Attempt) →
+    result ≡ Err faults.Device → left_mid ≡ left → IsFirstAt name (take left old) at → Called at Tells true old mid → TakenOff at left_mid left_now mid new →
     IfSome (slice_get mid at) (λ device. now ≡ rows_closed_on device.name addresses table) → Stands addresses (take left old) table world →
     Comes result addresses name (take left_now new) now world attempt
 failed_world result old mid new left left_mid left_now at name Tells addresses table now world attempt is same first called taken rows stands =
-    subst (λ (r : Tried). Comes r addresses name (take left_now new) now world attempt) (sym is)
+    subst (λ (r : Result ℕ FileFault). Comes r addresses name (take left_now new) now world attempt) (sym is)
     (failed_stands name old mid new left left_now at Tells addresses table now world first called (subst (λ (l : ℕ). TakenOff at l left_now mid new) same taken) rows stands)
 
-pub failed_breaks : (result : Tried) (old mid new : List Seen) (left left_mid left_now at : ℕ) (name : List ℕ) (Tells : Option (List MemFile) → Option (List MemFile) → Type 0) (addresses : List Address) (table now : List FileRow) (world : World) →
-    result ≡ tried.Failed → left_mid ≡ left → IsFirstAt name (take left old) at → Called at Tells true old mid → TakenOff at left_mid left_now mid new →
+pub failed_breaks : (result : Result ℕ FileFault) (old mid new : List Seen) (left left_mid left_now at : ℕ) (name : List ℕ) (Tells : Option (List MemFile) → Option (List MemFile) → Type 0) (addresses : List Address) (table now : List FileRow) (world : World) →
+    result ≡ Err faults.Device → left_mid ≡ left → IsFirstAt name (take left old) at → Called at Tells true old mid → TakenOff at left_mid left_now mid new →
     IfSome (slice_get mid at) (λ device. now ≡ rows_closed_on device.name addresses table) → Stands addresses (take left old) table world →
     Breaks result addresses name (take left_now new) now world
 failed_breaks result old mid new left left_mid left_now at name Tells addresses table now world is same first called taken rows stands =
-    subst (λ (r : Tried). Breaks r addresses name (take left_now new) now world) (sym is)
+    subst (λ (r : Result ℕ FileFault). Breaks r addresses name (take left_now new) now world) (sym is)
     (failed_stands name old mid new left left_now at Tells addresses table now world first called (subst (λ (l : ℕ). TakenOff at l left_now mid new) same taken) rows stands)
 
 -- ---- where the device wants memory
@@ -127,45 +127,45 @@ unchanged old new left at name Tells first called same =
     ∙ ap (λ d. device_put name d (take left old)) (seen_built called.after.name called.before.name called.after.files called.before.files called.after.faults called.before.faults called.named same called.counted)
     ∙ put_itself name called.before (take left old) (found_before name old left at called.before first called.here)
 
-pub wanted_world : (result : Tried) (old new : List Seen) (left left_now at : ℕ) (device name : List ℕ) (change : MemFile → MemFile) (addresses : List Address) (table : List FileRow) (world : World) (attempt : Attempt) → result ≡ tried.NoMemory → left_now ≡ left →
+pub wanted_world : (result : Result ℕ FileFault) (old new : List Seen) (left left_now at : ℕ) (device name : List ℕ) (change : MemFile → MemFile) (addresses : List Address) (table : List FileRow) (world : World) (attempt : Attempt) → result ≡ Err faults.NoMemory → left_now ≡ left →
     IsFirstAt device (take left old) at → Called at (λ before after. Changes before name change put.NoMemory after) false old new → Stands addresses (take left old) table world →
     Comes result addresses device (take left_now new) table world attempt
 wanted_world result old new left left_now at device name change addresses table world attempt is same first called stands =
-    subst (λ (r : Tried). Comes r addresses device (take left_now new) table world attempt) (sym is)
+    subst (λ (r : Result ℕ FileFault). Comes r addresses device (take left_now new) table world attempt) (sym is)
     (subst (λ (l : ℕ). Stands addresses (take l new) table world) (sym same)
     (subst (λ (ds : List Seen). Stands addresses ds table world) (sym (unchanged old new left at device (λ before after. Changes before name change put.NoMemory after) first called (files_same called.before.files called.after.files name change called.tells))) stands))
 
-pub wanted_bench : (result : Tried) (old new : List Seen) (left left_now at : ℕ) (name : List ℕ) (Tells : Option (List MemFile) → Option (List MemFile) → Type 0) → result ≡ tried.NoMemory → left_now ≡ left → IsFirstAt name (take left old) at → Called at Tells false old new → Leaves result name left left_now old new
+pub wanted_bench : (result : Result ℕ FileFault) (old new : List Seen) (left left_now at : ℕ) (name : List ℕ) (Tells : Option (List MemFile) → Option (List MemFile) → Type 0) → result ≡ Err faults.NoMemory → left_now ≡ left → IsFirstAt name (take left old) at → Called at Tells false old new → Leaves result name left left_now old new
 wanted_bench result old new left left_now at name Tells is same first called =
-    subst (λ (r : Tried). Leaves r name left left_now old new) (sym is) (subst (λ (l : ℕ). Kept name left l old new) (sym same) (kept_called name old new left at Tells first called))
+    subst (λ (r : Result ℕ FileFault). Leaves r name left left_now old new) (sym is) (subst (λ (l : ℕ). Kept name left l old new) (sym same) (kept_called name old new left at Tells first called))
 
 -- ---- where the device did it
 
-pub done_bench : (result : Tried) (old new : List Seen) (status left left_now at : ℕ) (name : List ℕ) (Tells : Option (List MemFile) → Option (List MemFile) → Type 0) → result ≡ tried.Status status → left_now ≡ left → IsFirstAt name (take left old) at → Called at Tells false old new → Leaves result name left left_now old new
+pub done_bench : (result : Result ℕ FileFault) (old new : List Seen) (status left left_now at : ℕ) (name : List ℕ) (Tells : Option (List MemFile) → Option (List MemFile) → Type 0) → result ≡ Ok status → left_now ≡ left → IsFirstAt name (take left old) at → Called at Tells false old new → Leaves result name left left_now old new
 done_bench result old new status left left_now at name Tells is same first called =
-    subst (λ (r : Tried). Leaves r name left left_now old new) (sym is) (subst (λ (l : ℕ). Kept name left l old new) (sym same) (kept_called name old new left at Tells first called))
+    subst (λ (r : Result ℕ FileFault). Leaves r name left left_now old new) (sym is) (subst (λ (l : ℕ). Kept name left l old new) (sym same) (kept_called name old new left at Tells first called))
 
-pub done_world : (result : Tried) (addresses : List Address) (name : List ℕ) (new : List Seen) (left left_now : ℕ) (now : List FileRow) (world : World) (attempt : Attempt) → result ≡ tried.Status 0 → left_now ≡ left →
-    Comes (tried.Status 0) addresses name (take left new) now world attempt → Comes result addresses name (take left_now new) now world attempt
+pub done_world : (result : Result ℕ FileFault) (addresses : List Address) (name : List ℕ) (new : List Seen) (left left_now : ℕ) (now : List FileRow) (world : World) (attempt : Attempt) → result ≡ Ok 0 → left_now ≡ left →
+    Comes (Ok 0) addresses name (take left new) now world attempt → Comes result addresses name (take left_now new) now world attempt
 done_world result addresses name new left left_now now world attempt is same comes =
-    subst (λ (r : Tried). Comes r addresses name (take left_now new) now world attempt) (sym is) (subst (λ (l : ℕ). Comes (tried.Status 0) addresses name (take l new) now world attempt) (sym same) comes)
+    subst (λ (r : Result ℕ FileFault). Comes r addresses name (take left_now new) now world attempt) (sym is) (subst (λ (l : ℕ). Comes (Ok 0) addresses name (take l new) now world attempt) (sym same) comes)
 
 -- ---- the table
 
-pub noted_notes : (result : Tried) (status file : ℕ) (name : List ℕ) (addresses : List Address) (f : FileRow → FileRow) (before now : List FileRow) → result ≡ tried.Status status → file < length before →
+pub noted_notes : (result : Result ℕ FileFault) (status file : ℕ) (name : List ℕ) (addresses : List Address) (f : FileRow → FileRow) (before now : List FileRow) → result ≡ Ok status → file < length before →
     IfSome (slice_get before file) (λ row. now ≡ slice_set before file (f row)) → Notes result file name addresses before now
 noted_notes result status file name addresses f before now is within after =
     let r : RowAt before file = row_at before file within in
-    subst (λ (t : Tried). Notes t file name addresses before now) (sym is) (f r.row, at_some (slice_get before file) (λ row. now ≡ slice_set before file (f row)) r.row r.is after)
+    subst (λ (t : Result ℕ FileFault). Notes t file name addresses before now) (sym is) (f r.row, at_some (slice_get before file) (λ row. now ≡ slice_set before file (f row)) r.row r.is after)
 
-pub set_notes : (result : Tried) (status file : ℕ) (name : List ℕ) (addresses : List Address) (row : FileRow) (before now : List FileRow) → result ≡ tried.Status status → now ≡ slice_set before file row → Notes result file name addresses before now
-set_notes result status file name addresses row before now is set = subst (λ (t : Tried). Notes t file name addresses before now) (sym is) (row, set)
+pub set_notes : (result : Result ℕ FileFault) (status file : ℕ) (name : List ℕ) (addresses : List Address) (row : FileRow) (before now : List FileRow) → result ≡ Ok status → now ≡ slice_set before file row → Notes result file name addresses before now
+set_notes result status file name addresses row before now is set = subst (λ (t : Result ℕ FileFault). Notes t file name addresses before now) (sym is) (row, set)
 
-pub failed_notes : (result : Tried) (file : ℕ) (name : List ℕ) (addresses : List Address) (old mid : List Seen) (left at : ℕ) (Tells : Option (List MemFile) → Option (List MemFile) → Type 0) (before now : List FileRow) → result ≡ tried.Failed →
+pub failed_notes : (result : Result ℕ FileFault) (file : ℕ) (name : List ℕ) (addresses : List Address) (old mid : List Seen) (left at : ℕ) (Tells : Option (List MemFile) → Option (List MemFile) → Type 0) (before now : List FileRow) → result ≡ Err faults.Device →
     IsFirstAt name (take left old) at → Called at Tells true old mid → IfSome (slice_get mid at) (λ device. now ≡ rows_closed_on device.name addresses before) → Notes result file name addresses before now
 failed_notes result file name addresses old mid left at Tells before now is first called rows =
     let here : slice_get mid at ≡ Some called.after = ap (λ l. slice_get l at) called.there ∙ get_set_same old at called.after called.before called.here in
     let named : called.after.name ≡ name = called.named ∙ name_same called.before.name name (found_named name (take left old) called.before (found_before name old left at called.before first called.here)) in
-    subst (λ (t : Tried). Notes t file name addresses before now) (sym is)
+    subst (λ (t : Result ℕ FileFault). Notes t file name addresses before now) (sym is)
     (at_some (slice_get mid at) (λ device. now ≡ rows_closed_on device.name addresses before) called.after here rows
     ∙ ap (λ (n : List ℕ). rows_closed_on n addresses before) named)

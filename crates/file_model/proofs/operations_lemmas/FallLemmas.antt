@@ -1,16 +1,16 @@
 -- What operations leave of a bench, one after the other.
-use Rattle.std.proofs.Common.{◌≡◌, ◌∙◌, sym, subst, ℕ, zero, suc, ◌<◌, ◌≤◌, ◌+◌, ◌-◌, Bool, true, false, ◌&&◌, ◌||◌, not, List, [], ◌∷◌, ◌++◌, length, take, drop, Option, Some, None, IsSome, refl, ap, arith, slice_get, if◌then◌else◌, append_assoc}
+use Rattle.std.proofs.Common.{◌≡◌, ◌∙◌, sym, subst, ℕ, zero, suc, ◌<◌, ◌+◌, Bool, true, false, ◌&&◌, ◌||◌, not, List, [], ◌∷◌, ◌++◌, length, take, drop, Option, Some, None, refl, ap, arith, slice_get, if◌then◌else◌, Result, Ok, Err}
 use Rattle.std.specs.Str.{bytes_eq}
 use Rattle.cob_tree.specs.declared.file.FileEntry.{FileEntry}
 use Rattle.file_model.specs.Attempts.{Address, address_of}
 use Rattle.file_model.specs.Told.{Counts}
-use Rattle.file_model.specs.declared.operations.tried.Tried.{Tried}
-use Rattle.file_model.specs.declared.operations.tried.Tried.TheVariants as tried
+use Rattle.file_model.specs.declared.operations.fault.FileFault.{FileFault}
+use Rattle.file_model.specs.declared.operations.fault.FileFault.TheVariants as faults
 use Rattle.file_model.specs.operations.Seen.{Seen, device_found, device_put, device_taken}
 use Rattle.file_model.specs.operations.Standing.{IsTold, TellUsed}
 use Rattle.file_model.specs.operations.Calls.{Kept, Leaves, SameBut, SameDevice, TookOff, addresses_of}
-use Rattle.file_model.specs.operations.Falling.{Failed, FailedAs, LeftOf, Touched, TouchedOne, all_taken, gone_with, is_among, is_used, name_behind, name_of}
-use Rattle.file_model.proofs.operations_lemmas.FileLemmas.{name_refl, name_same, not_other}
+use Rattle.file_model.specs.operations.Falling.{Failed, LeftOf, Touched, TouchedOne, all_taken, gone_with, is_among, is_used, name_behind, name_of}
+use Rattle.file_model.proofs.operations_lemmas.FileLemmas.{name_refl, name_same}
 use Rattle.file_model.proofs.operations_lemmas.DeviceLemmas.{found_named, found_taken_other}
 
 -- ---- names
@@ -238,10 +238,10 @@ module _ (used : List ℕ → Bool) (gone : List (List ℕ)) (name : List ℕ) (
         behind = off.behind ∙ ap (λ (l : List Seen). off.after ∷ l) one.behind;
       }
 
-  pub left_leaves : (answer : Tried) → Leaves answer name mid now between new → LeftOf used (gone_with answer name gone) left now old new
-  left_leaves tried.Failed leaves = left_off leaves
-  left_leaves (tried.Status status) leaves = left_kept leaves
-  left_leaves tried.NoMemory leaves = left_kept leaves
+  pub left_leaves : (answer : Result ℕ FileFault) → Leaves answer name mid now between new → LeftOf used (gone_with answer name gone) left now old new
+  left_leaves (Err faults.Device) leaves = left_off leaves
+  left_leaves (Ok status) leaves = left_kept leaves
+  left_leaves (Err faults.NoMemory) leaves = left_kept leaves
 
 none_fallen : (used : List ℕ → Bool) (old fallen : List Seen) → Failed used [] old fallen → fallen ≡ []
 none_fallen used old [] failed = refl

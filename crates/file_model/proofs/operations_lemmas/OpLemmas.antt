@@ -1,5 +1,5 @@
 -- What each operation comes to in a world: where it is refused, and where its device did it.
-use Rattle.std.proofs.Common.{◌≡◌, ◌∙◌, sym, subst, ℕ, zero, suc, ◌<◌, ◌≤◌, ◌+◌, ◌==◌, Bool, true, false, List, [], ◌∷◌, ◌++◌, map, length, take, Option, Some, None, IfSome, IsSomeAnd, IsTrue, is_some, refl, ap, arith, slice_get, slice_set, if◌then◌else◌, length-append, length-take, length-drop, unwrap_or, eqb-true, not}
+use Rattle.std.proofs.Common.{◌≡◌, ◌∙◌, sym, subst, ℕ, zero, suc, ◌<◌, ◌≤◌, ◌+◌, ◌==◌, Bool, true, false, List, [], ◌∷◌, ◌++◌, map, length, take, Option, Some, None, IfSome, IsSomeAnd, IsTrue, is_some, refl, ap, arith, slice_get, slice_set, if◌then◌else◌, length-append, length-take, length-drop, unwrap_or, eqb-true, not, Ok}
 use Rattle.std.proofs.lemmas.Option.{slice_get-map}
 use Rattle.std.specs.Option.{option_map}
 use Rattle.std.specs.Str.{bytes_eq}
@@ -11,7 +11,6 @@ use Rattle.file_model.specs.Attempts.{Address, Attempt, bytes_at, closed, closed
 use Rattle.file_model.specs.Status.{can_write, closed_row, is_in_out, may_close, may_rewrite, may_write, other_row}
 use Rattle.file_model.specs.Told.{Changes, appended, changed, found, replaced, replaced_from, shut}
 use Rattle.file_model.specs.World.{File, FileState, Shelf, World, bytes_of_file, file_found, file_put, files_of_shelf, shelf_found, shelf_put}
-use Rattle.file_model.specs.declared.operations.tried.Tried.TheVariants as tried
 use Rattle.file_model.specs.operations.Seen.{IsFirstAt, Nowhere, Seen, device_found}
 use Rattle.file_model.specs.operations.Standing.{LastAt, OpenAmong, OpenAs, OpenOn, SameFiles, SameShelf, Stands, StandsOn, as_file, row_of}
 use Rattle.file_model.specs.operations.Calls.{Called, Comes}
@@ -88,20 +87,20 @@ noted_stands addresses devices table world stands file state at =
     (restated addresses devices table world stands file state (noted_state state) at refl (λ device name as_before. noted_on state.row.how device name state as_before))
 
 refused_at : (addresses : List Address) (devices : List Seen) (name : List ℕ) (table : List FileRow) (world : World) (file status : ℕ) (attempt : Attempt) → (status ≡ 0 → ⊥) →
-    Stands addresses devices table (noted world file) → Comes (tried.Status status) addresses name devices table world (permitted world file status attempt)
+    Stands addresses devices table (noted world file) → Comes (Ok status) addresses name devices table world (permitted world file status attempt)
 refused_at addresses devices name table world file status attempt other stands =
-    subst (λ (b : Bool). Comes (tried.Status status) addresses name devices table world (if b then attempt else refused world file status)) (sym (not_zero status other)) (refl, stands)
+    subst (λ (b : Bool). Comes (Ok status) addresses name devices table world (if b then attempt else refused world file status)) (sym (not_zero status other)) (refl, stands)
 
 pub refused_comes : (addresses : List Address) (devices : List Seen) (name : List ℕ) (table now : List FileRow) (world : World) (file status : ℕ) (may : FileRow → ℕ) (attempt : Attempt) →
     Stands addresses devices table world → file < length table → IfSome (slice_get table file) (λ row. status ≡ may row) → (status ≡ 0 → ⊥) →
     IfSome (slice_get table file) (λ row. now ≡ slice_set table file (other_row row)) →
-    Comes (tried.Status status) addresses name devices now world (permitted world file (may (state_of world file).row) attempt)
+    Comes (Ok status) addresses name devices now world (permitted world file (may (state_of world file).row) attempt)
 refused_comes addresses devices name table now world file status may attempt stands within asked other after =
     let r : RowAt table file = row_at table file within in
     let s : StateOf world.files file r.row = state_at table world.files stands.rows file r.row r.is in
     let e : status ≡ may (state_of world file).row = at_some (slice_get table file) (λ row. status ≡ may row) r.row r.is asked ∙ ap may (sym s.is) ∙ ap (λ (t : FileState). may t.row) (sym (state_is world file s.state s.at)) in
     let n : now ≡ slice_set table file (other_row s.state.row) = at_some (slice_get table file) (λ row. now ≡ slice_set table file (other_row row)) r.row r.is after ∙ ap (λ row. slice_set table file (other_row row)) (sym s.is) in
-    subst (λ (m : ℕ). Comes (tried.Status status) addresses name devices now world (permitted world file m attempt)) e
+    subst (λ (m : ℕ). Comes (Ok status) addresses name devices now world (permitted world file m attempt)) e
     (refused_at addresses devices name now world file status attempt other
     (subst (λ (t : List FileRow). Stands addresses devices t (noted world file)) (sym n) (noted_stands addresses devices table world stands file s.state s.at)))
 
@@ -217,9 +216,9 @@ pub writes : (addresses : List Address) (old devices : List Seen) (table now : L
     IfSome (slice_get table file) (λ row. status ≡ may_write row) → status ≡ 0 →
     Called at (λ before after. Changes before address.name (appended bytes) put.Done after) false old devices →
     IfSome (slice_get table file) (λ row. now ≡ slice_set table file (other_row row)) →
-    Comes (tried.Status 0) addresses address.device (take left devices) now world (written_at world file address bytes)
+    Comes (Ok 0) addresses address.device (take left devices) now world (written_at world file address bytes)
 writes addresses old devices table now world left at file address bytes status stands is within first asked ok called after =
-    subst (λ (a : Attempt). Comes (tried.Status 0) addresses address.device (take left devices) now world a) (sym (allowed world file may_write done s.state r.row s.at s.is may_zero)) (
+    subst (λ (a : Attempt). Comes (Ok 0) addresses address.device (take left devices) now world a) (sym (allowed world file may_write done s.state r.row s.at s.is may_zero)) (
       refl,
       subst (λ (t : List FileRow). Stands addresses (take left devices) t done.world) (sym rows)
           (subst (λ (x : FileState). Stands addresses (take left devices) (slice_set table file (other_row s.state.row)) (with_state (with_bytes world address (bytes_at world address ++ bytes)) file (noted_state x))) (sym (state_is world file s.state s.at))
@@ -264,9 +263,9 @@ pub closes : (addresses : List Address) (old devices : List Seen) (table now : L
     Stands addresses (take left old) table world → slice_get addresses file ≡ Some address → file < length table → IsFirstAt address.device (take left old) at →
     IfSome (slice_get table file) (λ row. status ≡ may_close row) → status ≡ 0 →
     Called at (λ before after. Changes before address.name shut put.Done after) false old devices → now ≡ slice_set table file closed_row →
-    Comes (tried.Status 0) addresses address.device (take left devices) now world (closed_at world file)
+    Comes (Ok 0) addresses address.device (take left devices) now world (closed_at world file)
 closes addresses old devices table now world left at file address status stands is within first asked ok called after =
-    subst (λ (a : Attempt). Comes (tried.Status 0) addresses address.device (take left devices) now world a) (sym (allowed world file may_close done s.state r.row s.at s.is may_zero)) (
+    subst (λ (a : Attempt). Comes (Ok 0) addresses address.device (take left devices) now world a) (sym (allowed world file may_close done s.state r.row s.at s.is may_zero)) (
       refl,
       subst (λ (t : List FileRow). Stands addresses (take left devices) t done.world) (sym after)
           (subst (λ (ds : List Seen). Stands addresses ds (slice_set table file closed_row) done.world) (sym (bench_called address.device old devices left at (λ before after. Changes before address.name shut put.Done after) false first called))
@@ -330,9 +329,9 @@ pub rewrites : (addresses : List Address) (old devices : List Seen) (table now :
     IfSome (slice_get table file) (λ row. status ≡ may_rewrite row) → status ≡ 0 →
     Called at (λ before after. Changes before address.name (replaced bytes) put.Done after) false old devices →
     IfSome (slice_get table file) (λ row. now ≡ slice_set table file (other_row row)) →
-    Comes (tried.Status 0) addresses address.device (take left devices) now world (rewritten_at world file address bytes)
+    Comes (Ok 0) addresses address.device (take left devices) now world (rewritten_at world file address bytes)
 rewrites addresses old devices table now world left at file address bytes status stands is within first asked ok called after =
-    subst (λ (a : Attempt). Comes (tried.Status 0) addresses address.device (take left devices) now world a) (sym (allowed world file may_rewrite (rewritten_of world file (state_of world file) address bytes) s.state r.row s.at s.is may_zero)) (
+    subst (λ (a : Attempt). Comes (Ok 0) addresses address.device (take left devices) now world a) (sym (allowed world file may_rewrite (rewritten_of world file (state_of world file) address bytes) s.state r.row s.at s.is may_zero)) (
       refl,
       subst (λ (t : List FileRow). Stands addresses (take left devices) t (rewritten_of world file (state_of world file) address bytes).world) (sym rows)
           (subst (λ (x : FileState). Stands addresses (take left devices) (slice_set table file (other_row s.state.row)) (rewritten_of world file x address bytes).world) (sym (state_is world file s.state s.at))

@@ -1,5 +1,5 @@
 -- What OPEN comes to, on a device that tells its files.
-use Rattle.std.proofs.Common.{◌≡◌, ◌∙◌, sym, subst, ℕ, zero, suc, ◌<◌, ◌≤◌, Bool, true, false, ◌&&◌, ◌||◌, not, List, [], ◌∷◌, ◌++◌, map, length, take, Option, Some, None, IfSome, IsSome, IsSomeAnd, IsTrue, is_some, refl, ap, arith, slice_get, slice_set, if◌then◌else◌}
+use Rattle.std.proofs.Common.{◌≡◌, ◌∙◌, sym, subst, ℕ, zero, suc, ◌<◌, ◌≤◌, Bool, true, false, ◌&&◌, ◌||◌, not, List, [], ◌∷◌, ◌++◌, map, length, take, Option, Some, None, IfSome, IsSome, IsSomeAnd, IsTrue, is_some, refl, ap, arith, slice_get, slice_set, if◌then◌else◌, Result, Ok}
 use Rattle.std.specs.Option.{option_map}
 use Rattle.std.specs.Str.{bytes_eq}
 use Rattle.cob_tree.specs.declared.file.How.{How}
@@ -11,8 +11,7 @@ use Rattle.file_model.specs.Attempts.{Address, Attempt, address_of, can_be_opene
 use Rattle.file_model.specs.Status.{may_open, opened_row, other_row}
 use Rattle.file_model.specs.Told.{Opens, changed, found, made, opened_as, opening}
 use Rattle.file_model.specs.World.{File, FileState, Shelf, World, file_found, file_put, shelf_found, shelf_put}
-use Rattle.file_model.specs.declared.operations.tried.Tried.{Tried}
-use Rattle.file_model.specs.declared.operations.tried.Tried.TheVariants as tried
+use Rattle.file_model.specs.declared.operations.fault.FileFault.{FileFault}
 use Rattle.file_model.specs.operations.Seen.{IsFirstAt, Nowhere, Seen, device_found}
 use Rattle.file_model.specs.operations.Standing.{IsTold, OpenAmong, OpenAs, SameFiles, SameShelf, Stands, as_file, is_open_there, row_of}
 use Rattle.file_model.specs.operations.Calls.{Breaks, Called, Comes}
@@ -174,9 +173,9 @@ pub opens : (addresses : List Address) (old devices : List Seen) (table now : Li
     Stands addresses (take left old) table world → slice_get addresses file ≡ Some address → file < length table → IsFirstAt address.device (take left old) at →
     IfSome (slice_get table file) (λ row. status ≡ may_open row) → status ≡ 0 → can_be_opened address.name ≡ true → is_open_there address addresses table ≡ false →
     (called : Called at (λ before after. Opens before address.name mode opened.Ready after) false old devices) → IsSome called.before.files → now ≡ slice_set table file (opened_row mode) →
-    Comes (tried.Status 0) addresses address.device (take left devices) now world (opened_at world addresses file address mode)
+    Comes (Ok 0) addresses address.device (take left devices) now world (opened_at world addresses file address mode)
 opens addresses old devices table now world left at file address mode status stands is within first asked ok named free called told after =
-    subst (λ (a : Attempt). Comes (tried.Status 0) addresses address.device (take left devices) now world a)
+    subst (λ (a : Attempt). Comes (Ok 0) addresses address.device (take left devices) now world a)
     (sym (allowed world file may_open tried_so s.state r.row s.at s.is may_zero ∙ ready_attempt world addresses file address mode named not_taken ∙ so.is)) (
       refl,
       subst (λ (t : List FileRow). Stands addresses (take left devices) t done.world) (sym after)
@@ -212,13 +211,13 @@ opens addresses old devices table now world left at file address mode status sta
 
 -- ---- where it is refused
 
-pub refused_with : (addresses : List Address) (devices : List Seen) (name : List ℕ) (table now : List FileRow) (world : World) (file status answer : ℕ) (result : Tried) (may : FileRow → ℕ) (attempt : Attempt) → result ≡ tried.Status answer →
+pub refused_with : (addresses : List Address) (devices : List Seen) (name : List ℕ) (table now : List FileRow) (world : World) (file status answer : ℕ) (result : Result ℕ FileFault) (may : FileRow → ℕ) (attempt : Attempt) → result ≡ Ok answer →
     Stands addresses devices table world → file < length table → IfSome (slice_get table file) (λ row. status ≡ may row) → status ≡ 0 → attempt ≡ refused world file answer →
     IfSome (slice_get table file) (λ row. now ≡ slice_set table file (other_row row)) →
     Comes result addresses name devices now world (permitted world file (may (state_of world file).row) attempt)
 refused_with addresses devices name table now world file status answer result may attempt is stands within asked ok turned after =
-    subst (λ (r : Tried). Comes r addresses name devices now world (permitted world file (may (state_of world file).row) attempt)) (sym is)
-    (subst (λ (a : Attempt). Comes (tried.Status answer) addresses name devices now world a) (sym (allowed world file may attempt s.state r.row s.at s.is may_zero ∙ turned))
+    subst (λ (r : Result ℕ FileFault). Comes r addresses name devices now world (permitted world file (may (state_of world file).row) attempt)) (sym is)
+    (subst (λ (a : Attempt). Comes (Ok answer) addresses name devices now world a) (sym (allowed world file may attempt s.state r.row s.at s.is may_zero ∙ turned))
     (refl, subst (λ (t : List FileRow). Stands addresses devices t (noted world file)) (sym rows) (noted_stands addresses devices table world stands file s.state s.at)))
   where
     r : RowAt table file
@@ -277,7 +276,7 @@ missed_so world file address mode (Some files) after (Some shelf) here same told
       same = call.1;
     }
 
-pub missing : (addresses : List Address) (old devices : List Seen) (table now : List FileRow) (world : World) (left at file : ℕ) (address : Address) (mode : How) (status : ℕ) (result : Tried) → result ≡ tried.Status 35 →
+pub missing : (addresses : List Address) (old devices : List Seen) (table now : List FileRow) (world : World) (left at file : ℕ) (address : Address) (mode : How) (status : ℕ) (result : Result ℕ FileFault) → result ≡ Ok 35 →
     Stands addresses (take left old) table world → slice_get addresses file ≡ Some address → file < length table → IsFirstAt address.device (take left old) at →
     IfSome (slice_get table file) (λ row. status ≡ may_open row) → status ≡ 0 → (not (can_be_opened address.name) || is_open_there address addresses table) ≡ false →
     (called : Called at (λ before after. Opens before address.name mode opened.Missing after) false old devices) → IsSome called.before.files →
@@ -302,8 +301,8 @@ both_false false b e = absurd (let x : true ≡ false = e in cc)
 
 -- ---- the ends that no world is needed for
 
-pub status_breaks : (result : Tried) (status : ℕ) (addresses : List Address) (name : List ℕ) (devices : List Seen) (table : List FileRow) (world : World) → result ≡ tried.Status status → Breaks result addresses name devices table world
-status_breaks result status addresses name devices table world is = subst (λ (r : Tried). Breaks r addresses name devices table world) (sym is) tt
+pub status_breaks : (result : Result ℕ FileFault) (status : ℕ) (addresses : List Address) (name : List ℕ) (devices : List Seen) (table : List FileRow) (world : World) → result ≡ Ok status → Breaks result addresses name devices table world
+status_breaks result status addresses name devices table world is = subst (λ (r : Result ℕ FileFault). Breaks r addresses name devices table world) (sym is) tt
 
 open_same : (before after : Option (List MemFile)) (name : List ℕ) (mode : How) → Opens before name mode opened.NoMemory after → after ≡ before
 open_same None after name mode call = call
@@ -329,6 +328,6 @@ down_at text entry address addresses rows table result b e a r asked is =
 pub nowhere_named : (device name : List ℕ) (devices : List Seen) → device ≡ name → Nowhere device devices → Nowhere name devices
 nowhere_named device name devices e nowhere = subst (λ (n : List ℕ). Nowhere n devices) e nowhere
 
-pub missed_world : (result : Tried) (addresses : List Address) (name : List ℕ) (devices : List Seen) (left left_now : ℕ) (now : List FileRow) (world : World) (attempt : Attempt) → left_now ≡ left →
+pub missed_world : (result : Result ℕ FileFault) (addresses : List Address) (name : List ℕ) (devices : List Seen) (left left_now : ℕ) (now : List FileRow) (world : World) (attempt : Attempt) → left_now ≡ left →
     Comes result addresses name (take left devices) now world attempt → Comes result addresses name (take left_now devices) now world attempt
 missed_world result addresses name devices left left_now now world attempt same comes = subst (λ (l : ℕ). Comes result addresses name (take l devices) now world attempt) (sym same) comes

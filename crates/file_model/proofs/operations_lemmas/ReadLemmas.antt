@@ -1,5 +1,5 @@
 -- What READ comes to, on a device that tells its files.
-use Rattle.std.proofs.Common.{◌≡◌, ◌∙◌, sym, subst, ℕ, zero, suc, ◌<◌, ◌≤◌, ◌+◌, ◌==◌, Bool, true, false, not, List, [], ◌∷◌, ◌++◌, map, length, take, drop, Option, Some, None, IfSome, IsSome, IsSomeAnd, IsTrue, is_some, refl, ap, arith, slice_get, slice_set, if◌then◌else◌, length-take, length-drop, eqb-true}
+use Rattle.std.proofs.Common.{◌≡◌, ◌∙◌, sym, subst, ℕ, zero, suc, ◌<◌, ◌≤◌, ◌+◌, ◌==◌, Bool, true, false, not, List, [], ◌∷◌, ◌++◌, map, length, take, drop, Option, Some, None, IfSome, IsSome, IsSomeAnd, IsTrue, is_some, refl, ap, arith, slice_get, slice_set, if◌then◌else◌, length-take, length-drop, eqb-true, Result, Ok}
 use Rattle.std.proofs.lemmas.List.{take-append-le}
 use Rattle.std.specs.Option.{option_map}
 use Rattle.std.specs.Str.{bytes_eq}
@@ -12,8 +12,7 @@ use Rattle.file_model.specs.Attempts.{Address, Attempt, bytes_at, padded_to, rea
 use Rattle.file_model.specs.Status.{can_read, may_read, read_row}
 use Rattle.file_model.specs.Told.{Reads, ReadsFrom, changed, found, next_of, read_on}
 use Rattle.file_model.specs.World.{FileState, Shelf, World, bytes_of_file, file_found, files_of_shelf, shelf_found}
-use Rattle.file_model.specs.declared.operations.tried.Tried.{Tried}
-use Rattle.file_model.specs.declared.operations.tried.Tried.TheVariants as tried
+use Rattle.file_model.specs.declared.operations.fault.FileFault.{FileFault}
 use Rattle.file_model.specs.operations.Seen.{IsFirstAt, Seen, device_found}
 use Rattle.file_model.specs.operations.Standing.{IsTold, OpenAmong, OpenAs, SameFiles, SameShelf, Stands, StandsOn, as_file}
 use Rattle.file_model.specs.operations.Calls.{Called, Comes, addresses_of}
@@ -137,23 +136,23 @@ read_is world file state size n (byte ∷ next) count false e = (refl, ap (λ m.
 read_is world file state size n (byte ∷ next) count true e = absurd (let x : n ≡ 0 = eqb-true n 0 e in let y : n ≡ suc (length next) = count in omega (arith, x, y))
 
 -- what a READ that was done comes to
-pub record ReadEnd (addresses : List Address) (address : Address) (devices : List Seen) (now : List FileRow) (world : World) (file size n : ℕ) (result : Tried) (Fills : List ℕ → Type 0) : Type 0 where
+pub record ReadEnd (addresses : List Address) (address : Address) (devices : List Seen) (now : List FileRow) (world : World) (file size n : ℕ) (result : Result ℕ FileFault) (Fills : List ℕ → Type 0) : Type 0 where
   pub comes : Comes result addresses address.device devices now world (read_at world file address size)
   pub next : List ℕ
   pub count : n ≡ length next
   pub fills : Fills next
   pub bytes : (n == 0) ≡ false → (read_at world file address size).bytes ≡ padded_to size next
 
-pub reads : (addresses : List Address) (old devices : List Seen) (table now : List FileRow) (world : World) (left left_now at file : ℕ) (address : Address) (size n status : ℕ) (result : Tried) (Tells : Option (List MemFile) → Option (List MemFile) → Type 0) (Fills : List ℕ → Type 0) → left_now ≡ left →
-    result ≡ tried.Status (read_status (n == 0)) → Stands addresses (take left old) table world → slice_get addresses file ≡ Some address → file < length table → IsFirstAt address.device (take left old) at →
+pub reads : (addresses : List Address) (old devices : List Seen) (table now : List FileRow) (world : World) (left left_now at file : ℕ) (address : Address) (size n status : ℕ) (result : Result ℕ FileFault) (Tells : Option (List MemFile) → Option (List MemFile) → Type 0) (Fills : List ℕ → Type 0) → left_now ≡ left →
+    result ≡ Ok (read_status (n == 0)) → Stands addresses (take left old) table world → slice_get addresses file ≡ Some address → file < length table → IsFirstAt address.device (take left old) at →
     IfSome (slice_get table file) (λ row. status ≡ may_read row) → status ≡ 0 → (called : Called at Tells false old devices) →
     ((mode : How) (state : FileState) → SameFiles called.before.files (shelf_found address.device world.shelves) → OpenAmong called.before.files address.name mode state → ReadSo world address mode state size n called.after.files called.before.files Fills) →
     IfSome (slice_get table file) (λ row. now ≡ slice_set table file (read_row (n == 0) row)) →
     ReadEnd addresses address (take left_now devices) now world file size n result Fills
 reads addresses old devices table now world left left_now at file address size n status result Tells Fills same answer stands is within first asked ok called so_for after =
     record {
-      comes = subst (λ (r : Tried). Comes r addresses address.device (take left_now devices) now world (read_at world file address size)) (sym answer)
-          (subst (λ (a : Attempt). Comes (tried.Status (read_status (n == 0))) addresses address.device (take left_now devices) now world a) (sym attempt) (
+      comes = subst (λ (r : Result ℕ FileFault). Comes r addresses address.device (take left_now devices) now world (read_at world file address size)) (sym answer)
+          (subst (λ (a : Attempt). Comes (Ok (read_status (n == 0))) addresses address.device (take left_now devices) now world a) (sym attempt) (
             sym ends.0,
             subst (λ (w : World). Stands addresses (take left_now devices) now w) (sym ends.1)
                 (subst (λ (l : ℕ). Stands addresses (take l devices) now (with_state world file (read_state (n == 0) n s.state))) (sym same)
@@ -224,24 +223,24 @@ status_as false = refl
 abbrev pub read_tried : World → ℕ → Address → ℕ → Attempt
 read_tried world file address size = read_of world file (state_of world file) size (take size (drop (state_of world file).at (bytes_at world address)))
 
-pub no_record : (result : Tried) (status : ℕ) → result ≡ tried.Status status → (status ≡ 0 → ⊥) → result ≡ tried.Status 0 → ⊥
-no_record result status is other none = other (let e : tried.Status status ≡ tried.Status 0 = sym is ∙ none in cc)
+pub no_record : (result : Result ℕ FileFault) (status : ℕ) → result ≡ Ok status → (status ≡ 0 → ⊥) → result ≡ Ok 0 → ⊥
+no_record result status is other none = other (let e : Ok status ≡ Ok 0 = sym is ∙ none in cc)
 
-pub read_bytes : (files : List FileEntry) (old devices : List Seen) (table now : List FileRow) (world : World) (left left_now at file : ℕ) (device name : List ℕ) (address : Address) (n status : ℕ) (into mid : List ℕ) (result : Tried) →
-    Site files table file device name → slice_get (addresses_of files) file ≡ Some address → left_now ≡ left → result ≡ tried.Status (if n == 0 then 10 else 0) → Stands (addresses_of files) (take left old) table world → IsTold (device_found address.device (take left old)) →
+pub read_bytes : (files : List FileEntry) (old devices : List Seen) (table now : List FileRow) (world : World) (left left_now at file : ℕ) (device name : List ℕ) (address : Address) (n status : ℕ) (into mid : List ℕ) (result : Result ℕ FileFault) →
+    Site files table file device name → slice_get (addresses_of files) file ≡ Some address → left_now ≡ left → result ≡ Ok (if n == 0 then 10 else 0) → Stands (addresses_of files) (take left old) table world → IsTold (device_found address.device (take left old)) →
     IsFirstAt device (take left old) at → IfSome (slice_get table file) (λ row. status ≡ may_read row) → status ≡ 0 → Called at (λ before after. Reads before name (got.Bytes n) into mid after) false old devices →
     IfSome (slice_get table file) (λ row. now ≡ slice_set table file (read_row (n == 0) row)) → ReadEnd (addresses_of files) address (take left_now devices) now world file (length into) n result (Filled n into mid)
 read_bytes files old devices table now world left left_now at file device name address n status into mid result site here same answer stands told first asked ok asked_of after =
     let at_first : IsFirstAt address.device (take left old) at = first_named files table file device name site address here (take left old) at first in
     let called : Called at (λ before after. Reads before address.name (got.Bytes n) into mid after) false old devices = called_named files table file device name site address here (λ (m : List ℕ) (before after : Option (List MemFile)). Reads before m (got.Bytes n) into mid after) false old devices at asked_of in
     reads (addresses_of files) old devices table now world left left_now at file address (length into) n status result (λ before after. Reads before address.name (got.Bytes n) into mid after) (Filled n into mid) same
-    (answer ∙ ap tried.Status (status_as (n == 0))) stands here site.within at_first asked ok called
+    (answer ∙ ap Ok (status_as (n == 0))) stands here site.within at_first asked ok called
     (λ mode state kept open_so. bytes_so world address mode state n called.before.files called.after.files (shelf_found address.device world.shelves) into mid refl kept open_so
     (told_first (take left old) address.device called.before (found_before address.device old left at called.before at_first called.here) told) called.tells)
     after
 
-pub read_end : (files : List FileEntry) (old devices : List Seen) (table now : List FileRow) (world : World) (left left_now at file : ℕ) (device name : List ℕ) (address : Address) (status : ℕ) (into mid : List ℕ) (result : Tried) →
-    Site files table file device name → slice_get (addresses_of files) file ≡ Some address → left_now ≡ left → result ≡ tried.Status 10 → Stands (addresses_of files) (take left old) table world → IsTold (device_found address.device (take left old)) →
+pub read_end : (files : List FileEntry) (old devices : List Seen) (table now : List FileRow) (world : World) (left left_now at file : ℕ) (device name : List ℕ) (address : Address) (status : ℕ) (into mid : List ℕ) (result : Result ℕ FileFault) →
+    Site files table file device name → slice_get (addresses_of files) file ≡ Some address → left_now ≡ left → result ≡ Ok 10 → Stands (addresses_of files) (take left old) table world → IsTold (device_found address.device (take left old)) →
     IsFirstAt device (take left old) at → IfSome (slice_get table file) (λ row. status ≡ may_read row) → status ≡ 0 → Called at (λ before after. Reads before name got.End into mid after) false old devices →
     IfSome (slice_get table file) (λ row. now ≡ slice_set table file (read_row true row)) → ReadEnd (addresses_of files) address (take left_now devices) now world file (length into) 0 result (λ next. Unit {0})
 read_end files old devices table now world left left_now at file device name address status into mid result site here same answer stands told first asked ok asked_of after =
@@ -254,13 +253,13 @@ read_end files old devices table now world left left_now at file device name add
     after
 
 -- a record that was read is the padded one
-pub record_read : (addresses : List Address) (address : Address) (devices : List Seen) (now : List FileRow) (world : World) (file size n : ℕ) (result : Tried) (old mid new : List ℕ) → ReadEnd addresses address devices now world file size n result (Filled n old mid) →
-    result ≡ tried.Status (if n == 0 then 10 else 0) → length mid ≡ size → ((n == 0) ≡ false → new ≡ padded_to (length mid) (take n mid)) → result ≡ tried.Status 0 → new ≡ (read_at world file address size).bytes
+pub record_read : (addresses : List Address) (address : Address) (devices : List Seen) (now : List FileRow) (world : World) (file size n : ℕ) (result : Result ℕ FileFault) (old mid new : List ℕ) → ReadEnd addresses address devices now world file size n result (Filled n old mid) →
+    result ≡ Ok (if n == 0 then 10 else 0) → length mid ≡ size → ((n == 0) ≡ false → new ≡ padded_to (length mid) (take n mid)) → result ≡ Ok 0 → new ≡ (read_at world file address size).bytes
 record_read addresses address devices now world file size n result old mid new end answer long padded none = go (n == 0) refl
   where
     front : take n mid ≡ end.next
     front = ap (take n) end.fills ∙ ap (λ k. take k (end.next ++ drop n old)) end.count ∙ take-append-le (length end.next) end.next (drop n old) (omega arith) ∙ take_whole end.next (length end.next) (omega arith)
 
     go : (b : Bool) → (n == 0) ≡ b → new ≡ (read_at world file address size).bytes
-    go true e = absurd (let x : ◌≡◌ {A = Tried} (tried.Status (if true then 10 else 0)) (tried.Status 0) = ap (λ (b : Bool). tried.Status (if b then 10 else 0)) (sym e) ∙ sym answer ∙ none in let y : ◌≡◌ {A = ℕ} 10 0 = cc in omega (arith, y))
+    go true e = absurd (let x : ◌≡◌ {A = Result ℕ FileFault} (Ok (if true then 10 else 0)) (Ok 0) = ap (λ (b : Bool). Ok (if b then 10 else 0)) (sym e) ∙ sym answer ∙ none in let y : ◌≡◌ {A = ℕ} 10 0 = cc in omega (arith, y))
     go false e = padded e ∙ ap (λ k. padded_to k (take n mid)) long ∙ ap (padded_to size) front ∙ sym (end.bytes e)

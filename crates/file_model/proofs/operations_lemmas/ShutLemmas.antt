@@ -1,5 +1,5 @@
 -- The files that are open are closed, one after the other.
-use Rattle.std.proofs.Common.{◌≡◌, ◌⊎◌, ◌∙◌, sym, subst, ℕ, zero, suc, ◌<◌, ◌≤◌, ◌+◌, ◌==◌, Bool, true, false, ◌||◌, List, [], ◌∷◌, ◌++◌, length, map, take, Option, Some, None, IfSome, IsSome, IsSomeAnd, is_some, refl, ap, arith, inl, inr, slice_get, slice_set, if◌then◌else◌, append_assoc}
+use Rattle.std.proofs.Common.{◌≡◌, ◌⊎◌, ◌∙◌, sym, subst, ℕ, zero, suc, ◌<◌, ◌≤◌, ◌+◌, ◌==◌, Bool, true, false, ◌||◌, List, [], ◌∷◌, ◌++◌, length, map, take, Option, Some, None, IfSome, IsSome, IsSomeAnd, is_some, refl, ap, arith, inl, inr, slice_get, slice_set, if◌then◌else◌, append_assoc, Result, Ok, Err}
 use Rattle.std.proofs.lemmas.Bool.{cases_lt}
 use Rattle.std.proofs.lemmas.List.{length-set}
 use Rattle.std.proofs.lemmas.Option.{slice_get-map}
@@ -12,8 +12,8 @@ use Rattle.file_model.specs.Attempts.{Address, closed_at, permitted, refused, st
 use Rattle.file_model.specs.Status.{closed_row, may_close}
 use Rattle.file_model.specs.Told.{Changes, changed, found, shut}
 use Rattle.file_model.specs.World.{FileState, World, shelf_found}
-use Rattle.file_model.specs.declared.operations.tried.Tried.{Tried}
-use Rattle.file_model.specs.declared.operations.tried.Tried.TheVariants as tried
+use Rattle.file_model.specs.declared.operations.fault.FileFault.{FileFault}
+use Rattle.file_model.specs.declared.operations.fault.FileFault.TheVariants as faults
 use Rattle.file_model.specs.operations.Calls.{Called, Comes, Leaves, Notes}
 use Rattle.file_model.specs.operations.Falling.{AreShut, IsShut, LeftOf, gone_with, is_among, is_used}
 use Rattle.file_model.specs.operations.Seen.{IsFirstAt, Seen, device_found, device_put, device_taken}
@@ -31,11 +31,11 @@ use Rattle.file_model.proofs.operations_lemmas.TakingLemmas.{length_closed}
 
 -- ---- statuses
 
-pub other_status : (result : Tried) (status : ℕ) → result ≡ tried.Status status → (status ≡ 0 → ⊥) → result ≡ tried.Status 0 → ⊥
-other_status result status is other same = other (let e : tried.Status status ≡ tried.Status 0 = sym is ∙ same in let nought : status ≡ 0 = cc in nought)
+pub other_status : (result : Result ℕ FileFault) (status : ℕ) → result ≡ Ok status → (status ≡ 0 → ⊥) → result ≡ Ok 0 → ⊥
+other_status result status is other same = other (let e : Ok status ≡ Ok 0 = sym is ∙ same in let nought : status ≡ 0 = cc in nought)
 
-pub failed_status : (result : Tried) (status : ℕ) → result ≡ tried.Failed → result ≡ tried.Status status → ⊥
-failed_status result status is same = let e : tried.Failed ≡ tried.Status status = sym is ∙ same in let never : ⊥ = cc in never
+pub failed_status : (result : Result ℕ FileFault) (status : ℕ) → result ≡ Err faults.Device → result ≡ Ok status → ⊥
+failed_status result status is same = let e : (Err faults.Device) ≡ Ok status = sym is ∙ same in let never : ⊥ = cc in never
 
 -- ---- what CLOSE makes of the files of a device
 
@@ -145,11 +145,11 @@ open_left gone (first ∷ addresses) (one ∷ rows) zero address row apart here 
     sym (ap (λ (a : Address). is_among gone a.device) e) ∙ shut_row (is_among gone first.device) one apart.0 (subst (λ (x : FileRow). IsSome x.how) (sym r) opened_so)
 open_left gone (first ∷ addresses) (one ∷ rows) (suc file) address row apart here there opened_so = open_left gone addresses rows file address row apart.1 here there opened_so
 
-pub notes_shut : (answer : Tried) (file : ℕ) (address : Address) (gone : List (List ℕ)) (addresses : List Address) (before now : List FileRow) → slice_get addresses file ≡ Some address → is_among gone address.device ≡ false → AreShut gone addresses before →
+pub notes_shut : (answer : Result ℕ FileFault) (file : ℕ) (address : Address) (gone : List (List ℕ)) (addresses : List Address) (before now : List FileRow) → slice_get addresses file ≡ Some address → is_among gone address.device ≡ false → AreShut gone addresses before →
     Notes answer file address.device addresses before now → AreShut (gone_with answer address.device gone) addresses now
-notes_shut tried.Failed file address gone addresses before now here none apart notes = subst (AreShut (address.device ∷ gone) addresses) (sym notes) (closed_shut gone address.device addresses before apart)
-notes_shut (tried.Status status) file address gone addresses before now here none apart notes = subst (AreShut gone addresses) (sym notes.1) (set_shut gone addresses before file address notes.0 here none apart)
-notes_shut tried.NoMemory file address gone addresses before now here none apart notes = subst (AreShut gone addresses) (sym notes) apart
+notes_shut (Err faults.Device) file address gone addresses before now here none apart notes = subst (AreShut (address.device ∷ gone) addresses) (sym notes) (closed_shut gone address.device addresses before apart)
+notes_shut (Ok status) file address gone addresses before now here none apart notes = subst (AreShut gone addresses) (sym notes.1) (set_shut gone addresses before file address notes.0 here none apart)
+notes_shut (Err faults.NoMemory) file address gone addresses before now here none apart notes = subst (AreShut gone addresses) (sym notes) apart
 
 -- ---- one file
 
@@ -196,7 +196,7 @@ module _ (file : ℕ) (addresses : List Address) (gone : List (List ℕ)) (old :
           stays (slice_get before file) asked (subst (λ (n : ℕ). IsSomeAnd (slice_get before n) (λ (row : FileRow). IsSome row.how)) e (so.still f a (omega (arith, e)) opened_so))
 
   -- it was closed
-  was_closed : (address : Address) (new : List Seen) (rows : List FileRow) (status : ℕ) → slice_get addresses file ≡ Some address → Comes (tried.Status status) addresses address.device new rows so.now (closed_at so.now file) → Notes (tried.Status status) file address.device addresses before rows →
+  was_closed : (address : Address) (new : List Seen) (rows : List FileRow) (status : ℕ) → slice_get addresses file ≡ Some address → Comes (Ok status) addresses address.device new rows so.now (closed_at so.now file) → Notes (Ok status) file address.device addresses before rows →
       IsShutOn (device_found address.device new) address.name → ((device name : List ℕ) → IsShutOn (device_found device old) name → IsShutOn (device_found device new) name) → ShutTo (suc file) addresses gone new rows world
   was_closed address new rows status here comes notes down others = record {
     rows = ap length notes.1 ∙ length-set before file notes.0 ∙ so.rows;
@@ -217,7 +217,7 @@ module _ (file : ℕ) (addresses : List Address) (gone : List (List ℕ)) (old :
           subst (λ (x : Address). IsShutOn (device_found x.device new) x.name) (sym same) down
 
   -- its device failed
-  fell_off : (address : Address) (new : List Seen) (rows : List FileRow) → slice_get addresses file ≡ Some address → Comes tried.Failed addresses address.device new rows so.now (closed_at so.now file) → Notes tried.Failed file address.device addresses before rows →
+  fell_off : (address : Address) (new : List Seen) (rows : List FileRow) → slice_get addresses file ≡ Some address → Comes (Err faults.Device) addresses address.device new rows so.now (closed_at so.now file) → Notes (Err faults.Device) file address.device addresses before rows →
       new ≡ device_taken address.device old → ShutTo (suc file) addresses (address.device ∷ gone) new rows world
   fell_off address new rows here comes notes off = record {
     rows = ap length notes ∙ length_closed address.device addresses before ∙ so.rows;
@@ -276,15 +276,15 @@ module _ (file : ℕ) (addresses : List Address) (gone : List (List ℕ)) (left 
         let r : RowAt before file = row_at before file within in
         open_left gone addresses before file address r.row apart here r.is (row_open status r.row (at_some (slice_get before file) (λ row. status ≡ may_close row) r.row r.is asked) ok)
 
-    pub shuts_done : (answer : ℕ) → Leaves (tried.Status answer) address.device mid now old new → Notes (tried.Status answer) file address.device addresses before rows →
-        ((world : World) → Stands addresses (take mid old) before world → Comes (tried.Status answer) addresses address.device (take now new) rows world (closed_at world file)) →
+    pub shuts_done : (answer : ℕ) → Leaves (Ok answer) address.device mid now old new → Notes (Ok answer) file address.device addresses before rows →
+        ((world : World) → Stands addresses (take mid old) before world → Comes (Ok answer) addresses address.device (take now new) rows world (closed_at world file)) →
         (answer ≡ 0 → IsShutOn (device_found address.device (take now new)) address.name) → ((device name : List ℕ) → IsShutOn (device_found device (take mid old)) name → IsShutOn (device_found device (take now new)) name) →
         Shuts file (suc file) false addresses gone left mid now start old new before rows
     shuts_done answer leaves notes comes down others = record {
       more = [];
       some = refl;
-      apart = notes_shut (tried.Status answer) file address gone addresses before rows here on_left apart notes;
-      left_of = left_leaves (is_used addresses) gone address.device left mid now start old new (used_at addresses file address here) on_left left_of (tried.Status answer) leaves;
+      apart = notes_shut (Ok answer) file address gone addresses before rows here on_left apart notes;
+      left_of = left_leaves (is_used addresses) gone address.device left mid now start old new (used_at addresses file address here) on_left left_of (Ok answer) leaves;
       files = λ world so.
           let came = comes so.now so.stands in
           let zero : answer ≡ 0 = came.0 ∙ allowed_status so.now so.stands in
@@ -294,16 +294,22 @@ module _ (file : ℕ) (addresses : List Address) (gone : List (List ℕ)) (left 
         allowed_status : (world : World) → Stands addresses (take mid old) before world → (closed_at world file).status ≡ 0
         allowed_status world stands = ap (λ (n : ℕ). (permitted world file n (close_tried world file)).status) (sym (status_in addresses (take mid old) before world file status stands within asked) ∙ ok)
 
-    pub shuts_off : Leaves tried.Failed address.device mid now old new → Notes tried.Failed file address.device addresses before rows →
-        ((world : World) → Stands addresses (take mid old) before world → Comes tried.Failed addresses address.device (take now new) rows world (closed_at world file)) →
+    shuts_off : Leaves (Err faults.Device) address.device mid now old new → Notes (Err faults.Device) file address.device addresses before rows →
+        ((world : World) → Stands addresses (take mid old) before world → Comes (Err faults.Device) addresses address.device (take now new) rows world (closed_at world file)) →
         Shuts file (suc file) true addresses gone left mid now start old new before rows
     shuts_off leaves notes comes = record {
       more = address.device ∷ [];
       some = refl;
-      apart = notes_shut tried.Failed file address gone addresses before rows here on_left apart notes;
-      left_of = left_leaves (is_used addresses) gone address.device left mid now start old new (used_at addresses file address here) on_left left_of tried.Failed leaves;
+      apart = notes_shut (Err faults.Device) file address gone addresses before rows here on_left apart notes;
+      left_of = left_leaves (is_used addresses) gone address.device left mid now start old new (used_at addresses file address here) on_left left_of (Err faults.Device) leaves;
       files = λ world so. fell_off file addresses gone (take mid old) before world so address (take now new) rows here (comes so.now so.stands) notes leaves.bench;
     }
+
+    pub shuts_broken : (fault : FileFault) → fault ≡ faults.Device → Leaves (Err fault) address.device mid now old new → Notes (Err fault) file address.device addresses before rows →
+        ((world : World) → Stands addresses (take mid old) before world → Comes (Err fault) addresses address.device (take now new) rows world (closed_at world file)) →
+        Shuts file (suc file) true addresses gone left mid now start old new before rows
+    shuts_broken faults.Device is leaves notes comes = shuts_off leaves notes comes
+    shuts_broken faults.NoMemory is leaves notes comes = absurd (let never : faults.NoMemory ≡ faults.Device = is in cc)
 
 -- ---- one file after the other
 

@@ -1,13 +1,13 @@
 -- What a call makes of the devices of a bench.
-use Rattle.std.specs.Prelude.{ℕ, suc, ◌≡◌, Bool, true, List, ◌∷◌, ◌++◌, map, take, drop, Option, Some, None, IsSome, slice_get, slice_set}
+use Rattle.std.specs.Prelude.{ℕ, suc, ◌≡◌, Bool, true, List, ◌∷◌, ◌++◌, map, take, drop, Option, Some, None, IsSome, slice_get, slice_set, Result, Ok, Err}
 use Rattle.cob_tree.specs.declared.file.FileEntry.{FileEntry}
 use Rattle.file_model.specs.declared.mem_file.MemFile.{MemFile}
 use Rattle.file_model.specs.declared.table.FileRow.{FileRow}
 use Rattle.file_model.specs.Attempts.{Address, Attempt, address_of}
 use Rattle.file_model.specs.Told.{Counts}
 use Rattle.file_model.specs.World.{World}
-use Rattle.file_model.specs.declared.operations.tried.Tried.{Tried}
-use Rattle.file_model.specs.declared.operations.tried.Tried.TheVariants as tried
+use Rattle.file_model.specs.declared.operations.fault.FileFault.{FileFault}
+use Rattle.file_model.specs.declared.operations.fault.FileFault.TheVariants as faults
 use Rattle.file_model.specs.operations.Seen.{Seen, device_found, device_put, device_taken}
 use Rattle.file_model.specs.operations.Standing.{Stands, rows_closed_on, without}
 
@@ -89,34 +89,34 @@ pub record TookOff (name : List ℕ) (left left_now : ℕ) (old new : List Seen)
   pub counted : Counts true before.faults after.faults
 
 -- what an operation leaves of the devices, by how it came out
-abbrev pub Leaves : Tried → List ℕ → (left left_now : ℕ) → (old new : List Seen) → Type 0
-Leaves tried.Failed name left left_now old new = TookOff name left left_now old new
-Leaves (tried.Status status) name left left_now old new = Kept name left left_now old new
-Leaves tried.NoMemory name left left_now old new = Kept name left left_now old new
+abbrev pub Leaves : Result ℕ FileFault → List ℕ → (left left_now : ℕ) → (old new : List Seen) → Type 0
+Leaves (Err faults.Device) name left left_now old new = TookOff name left left_now old new
+Leaves (Ok status) name left left_now old new = Kept name left left_now old new
+Leaves (Err faults.NoMemory) name left left_now old new = Kept name left left_now old new
 
 -- ---- the table after an operation
 
 -- the file's row alone is another, or the device failed and the files on it are closed
-abbrev pub Notes : Tried → ℕ → List ℕ → List Address → (before now : List FileRow) → Type 0
-Notes tried.Failed file name addresses before now = now ≡ rows_closed_on name addresses before
-Notes (tried.Status status) file name addresses before now =
+abbrev pub Notes : Result ℕ FileFault → ℕ → List ℕ → List Address → (before now : List FileRow) → Type 0
+Notes (Err faults.Device) file name addresses before now = now ≡ rows_closed_on name addresses before
+Notes (Ok status) file name addresses before now =
     (row : FileRow) × (now ≡ slice_set before file row)
-Notes tried.NoMemory file name addresses before now = now ≡ before
+Notes (Err faults.NoMemory) file name addresses before now = now ≡ before
 
 -- ---- what an operation comes to in a world
 
 -- the attempt, or a device that is gone, or nothing
-abbrev pub Comes : Tried → List Address → List ℕ → List Seen → List FileRow → World → Attempt → Type 0
-Comes (tried.Status status) addresses name devices table world attempt =
+abbrev pub Comes : Result ℕ FileFault → List Address → List ℕ → List Seen → List FileRow → World → Attempt → Type 0
+Comes (Ok status) addresses name devices table world attempt =
     (status ≡ attempt.status) × Stands addresses devices table attempt.world
-Comes tried.Failed addresses name devices table world attempt =
+Comes (Err faults.Device) addresses name devices table world attempt =
     Stands addresses devices table (without name (device_found name devices) addresses world)
-Comes tried.NoMemory addresses name devices table world attempt =
+Comes (Err faults.NoMemory) addresses name devices table world attempt =
     Stands addresses devices table world
 
 -- the same of what breaks off alone: a device that is gone, or nothing
-abbrev pub Breaks : Tried → List Address → List ℕ → List Seen → List FileRow → World → Type 0
-Breaks (tried.Status status) addresses name devices table world = Unit {0}
-Breaks tried.Failed addresses name devices table world =
+abbrev pub Breaks : Result ℕ FileFault → List Address → List ℕ → List Seen → List FileRow → World → Type 0
+Breaks (Ok status) addresses name devices table world = Unit {0}
+Breaks (Err faults.Device) addresses name devices table world =
     Stands addresses devices table (without name (device_found name devices) addresses world)
-Breaks tried.NoMemory addresses name devices table world = Stands addresses devices table world
+Breaks (Err faults.NoMemory) addresses name devices table world = Stands addresses devices table world

@@ -1,12 +1,12 @@
 -- What the devices of a bench come to, whatever files they tell.
-use Rattle.std.specs.Prelude.{ℕ, suc, ◌≡◌, ◌+◌, ◌&&◌, ◌||◌, not, Bool, true, false, List, [], ◌∷◌, ◌++◌, length, take, drop, Option, Some, None, slice_get}
+use Rattle.std.specs.Prelude.{ℕ, ◌≡◌, ◌+◌, ◌&&◌, not, Bool, true, false, List, [], ◌∷◌, ◌++◌, length, take, drop, Option, Some, None, slice_get, Result, Ok, Err}
 use Rattle.std.specs.List.{list_any}
 use Rattle.std.specs.Str.{bytes_eq}
 use Rattle.file_model.specs.declared.table.FileRow.{FileRow}
 use Rattle.file_model.specs.Attempts.{Address}
 use Rattle.file_model.specs.Told.{Counts}
-use Rattle.file_model.specs.declared.operations.tried.Tried.{Tried}
-use Rattle.file_model.specs.declared.operations.tried.Tried.TheVariants as tried
+use Rattle.file_model.specs.declared.operations.fault.FileFault.{FileFault}
+use Rattle.file_model.specs.declared.operations.fault.FileFault.TheVariants as faults
 use Rattle.file_model.specs.operations.Calls.{SameDevice}
 use Rattle.file_model.specs.operations.Seen.{Seen, device_found, device_taken}
 
@@ -90,10 +90,10 @@ abbrev pub name_behind : ℕ → List Seen → List ℕ
 name_behind left devices = name_of (slice_get devices left)
 
 -- the names of those that failed, by how an operation on a device of that name came out
-abbrev pub gone_with : Tried → List ℕ → List (List ℕ) → List (List ℕ)
-gone_with tried.Failed name gone = name ∷ gone
-gone_with (tried.Status status) name gone = gone
-gone_with tried.NoMemory name gone = gone
+abbrev pub gone_with : Result ℕ FileFault → List ℕ → List (List ℕ) → List (List ℕ)
+gone_with (Err faults.Device) name gone = name ∷ gone
+gone_with (Ok status) name gone = gone
+gone_with (Err faults.NoMemory) name gone = gone
 
 -- ---- the files of the program on devices that failed
 

@@ -5,7 +5,7 @@ ghost use Rattle.file_model.specs.Told.{Changes, Counts, GivesAtMost, Opens, Rea
 ghost use Rattle.file_model.specs.Told.{appended, open_fails, put_fails, read_fails, replaced, shut};
 ghost use Rattle.file_model.specs.operations.Calls.{Called};
 
-use crate::operations::watched::Watched;
+use crate::operations::watched::{Shown, Watched};
 use crate::{Bench, Device, Got, Opened, Put};
 use cob_tree::How;
 
@@ -86,8 +86,7 @@ pub fn open_at(bench: &mut Bench, at: usize, name: &[u8], how: How) -> Opened
     requires { at < bench.old.left }
     ensures left { bench.new.left ≡ bench.old.left }
     ensures called { Called at (λ old now. Opens old name.now how result now) (open_fails result)
-        (map ⟦<Box<dyn Device> as Watched>⟧.seen bench.old.devices.items)
-        (map ⟦<Box<dyn Device> as Watched>⟧.seen bench.new.devices.items) }
+        (⟦<Bench as Shown>⟧.all bench.old) (⟦<Bench as Shown>⟧.all bench.new) }
 {
     let answer = open_one(&mut bench.devices[at], name, how);
     answer
@@ -99,8 +98,7 @@ pub fn close_at(bench: &mut Bench, at: usize, name: &[u8]) -> Put
     ensures left { bench.new.left ≡ bench.old.left }
     ensures memory { result ≢ Put.NoMemory }
     ensures called { Called at (λ old now. Changes old name.now shut result now) (put_fails result)
-        (map ⟦<Box<dyn Device> as Watched>⟧.seen bench.old.devices.items)
-        (map ⟦<Box<dyn Device> as Watched>⟧.seen bench.new.devices.items) }
+        (⟦<Bench as Shown>⟧.all bench.old) (⟦<Bench as Shown>⟧.all bench.new) }
 {
     let answer = close_one(&mut bench.devices[at], name);
     answer
@@ -112,8 +110,7 @@ pub fn read_at(bench: &mut Bench, at: usize, name: &[u8], into: &mut [u8]) -> Go
     ensures left { bench.new.left ≡ bench.old.left }
     ensures bound { GivesAtMost (length into.old) result }
     ensures called { Called at (λ old now. Reads old name.now result into.old into.new now) (read_fails result)
-        (map ⟦<Box<dyn Device> as Watched>⟧.seen bench.old.devices.items)
-        (map ⟦<Box<dyn Device> as Watched>⟧.seen bench.new.devices.items) }
+        (⟦<Bench as Shown>⟧.all bench.old) (⟦<Bench as Shown>⟧.all bench.new) }
 {
     let answer = read_one(&mut bench.devices[at], name, into);
     answer
@@ -124,8 +121,7 @@ pub fn write_at(bench: &mut Bench, at: usize, name: &[u8], bytes: &[u8]) -> Put
     requires { at < bench.old.left }
     ensures left { bench.new.left ≡ bench.old.left }
     ensures called { Called at (λ old now. Changes old name.now (appended bytes.now) result now) (put_fails result)
-        (map ⟦<Box<dyn Device> as Watched>⟧.seen bench.old.devices.items)
-        (map ⟦<Box<dyn Device> as Watched>⟧.seen bench.new.devices.items) }
+        (⟦<Bench as Shown>⟧.all bench.old) (⟦<Bench as Shown>⟧.all bench.new) }
 {
     let answer = write_one(&mut bench.devices[at], name, bytes);
     answer
@@ -136,8 +132,7 @@ pub fn rewrite_at(bench: &mut Bench, at: usize, name: &[u8], bytes: &[u8]) -> Pu
     requires { at < bench.old.left }
     ensures left { bench.new.left ≡ bench.old.left }
     ensures called { Called at (λ old now. Changes old name.now (replaced bytes.now) result now) (put_fails result)
-        (map ⟦<Box<dyn Device> as Watched>⟧.seen bench.old.devices.items)
-        (map ⟦<Box<dyn Device> as Watched>⟧.seen bench.new.devices.items) }
+        (⟦<Bench as Shown>⟧.all bench.old) (⟦<Bench as Shown>⟧.all bench.new) }
 {
     let answer = rewrite_one(&mut bench.devices[at], name, bytes);
     answer

@@ -1,6 +1,6 @@
 //! CLOSE, and the end of a run.
 
-ghost use Rattle.std.specs.Prelude.{ℕ, suc, List, ◌≡◌, ◌≢◌, ◌<◌, ◌^◌, Some, length, map, slice_get, slice_set, take};
+ghost use Rattle.std.specs.Prelude.{ℕ, suc, List, ◌≡◌, ◌≢◌, ◌<◌, ◌^◌, Some, length, map, slice_get, slice_set, take, Ok, Err};
 ghost use Rattle.file_model.specs.Status.{closed_row};
 ghost use Rattle.file_model.specs.Attempts.{Address, closed_at};
 ghost use Rattle.file_model.specs.World.{World};
@@ -12,53 +12,52 @@ ghost use Rattle.file_model.specs.operations.Standing.{Stands};
 
 use crate::operations::address::{device_of, name_of};
 use crate::operations::calls::close_at;
+use crate::operations::fault::FileFault;
 use crate::operations::finding::first_of;
+use crate::operations::noting::noted;
 use crate::operations::taking::fail;
-use crate::operations::tried::{Tried, noted};
-use crate::operations::watched::Watched;
-use crate::{Bench, Device, FileTable, Put};
+use crate::operations::watched::Shown;
+use crate::{Bench, FileTable, Put};
 use cob_tree::FileEntry;
 
-fn shut(table: &mut FileTable, file: u32) -> Tried
+fn shut(table: &mut FileTable, file: u32) -> Result<u8, FileFault>
     requires { file < length table.old.rows }
     ensures rows { length table.new.rows ≡ length table.old.rows }
-    ensures answer { result ≡ Tried.Status 0 }
+    ensures answer { result ≡ Ok 0 }
     ensures table { table.new.rows ≡ slice_set table.old.rows file closed_row }
 {
     table.note_close(file);
-    Tried::Status(0)
+    Ok(0)
 }
 
 /// CLOSE: status 42 where the file isn't open. It allocates nothing.
-pub fn close(bench: &mut Bench, table: &mut FileTable, files: &[FileEntry], file: u32) -> Tried
+pub fn close(
+    bench: &mut Bench,
+    table: &mut FileTable,
+    files: &[FileEntry],
+    file: u32,
+) -> Result<u8, FileFault>
     requires rows { length table.old.rows ≡ length files.now }
     requires few { length files.now < 2 ^ 32 }
     requires file { file < length files.now }
     ensures rows { length table.new.rows ≡ length table.old.rows }
-    ensures memory { result ≢ Tried.NoMemory }
+    ensures memory { result ≢ Err FileFault.NoMemory }
     ensures bench { (address : Address) → slice_get (addresses_of files.now) file ≡ Some address →
         Leaves result address.device bench.old.left bench.new.left
-        (map ⟦<Box<dyn Device> as Watched>⟧.seen bench.old.devices.items)
-        (map ⟦<Box<dyn Device> as Watched>⟧.seen bench.new.devices.items) }
+        (⟦<Bench as Shown>⟧.all bench.old) (⟦<Bench as Shown>⟧.all bench.new) }
     ensures notes { (address : Address) → slice_get (addresses_of files.now) file ≡ Some address →
         Notes result file address.device (addresses_of files.now) table.old.rows table.new.rows }
     ensures world { (world : World) (address : Address) →
         slice_get (addresses_of files.now) file ≡ Some address →
-        Stands (addresses_of files.now)
-        (take bench.old.left (map ⟦<Box<dyn Device> as Watched>⟧.seen bench.old.devices.items))
-        table.old.rows world →
-        Comes result (addresses_of files.now) address.device
-        (take bench.new.left (map ⟦<Box<dyn Device> as Watched>⟧.seen bench.new.devices.items))
+        Stands (addresses_of files.now) (⟦<Bench as Shown>⟧.on bench.old) table.old.rows world →
+        Comes result (addresses_of files.now) address.device (⟦<Bench as Shown>⟧.on bench.new)
         table.new.rows world (closed_at world file) }
     ensures shut { (address : Address) → slice_get (addresses_of files.now) file ≡ Some address →
-        result ≡ Tried.Status 0 → IsShutOn (device_found address.device
-        (take bench.new.left (map ⟦<Box<dyn Device> as Watched>⟧.seen bench.new.devices.items)))
+        result ≡ Ok 0 → IsShutOn (device_found address.device (⟦<Bench as Shown>⟧.on bench.new))
         address.name }
-    ensures others { (device name : List ℕ) → result ≢ Tried.Failed → IsShutOn (device_found device
-        (take bench.old.left (map ⟦<Box<dyn Device> as Watched>⟧.seen bench.old.devices.items)))
-        name → IsShutOn (device_found device
-        (take bench.new.left (map ⟦<Box<dyn Device> as Watched>⟧.seen bench.new.devices.items)))
-        name }
+    ensures others { (device name : List ℕ) → result ≢ Err FileFault.Device → IsShutOn (device_found device
+        (⟦<Bench as Shown>⟧.on bench.old)) name → IsShutOn (device_found device
+        (⟦<Bench as Shown>⟧.on bench.new)) name }
 {
     let status = table.may_close(file);
     if status != 0 {
@@ -70,7 +69,7 @@ pub fn close(bench: &mut Bench, table: &mut FileTable, files: &[FileEntry], file
         Some(at) => match close_at(bench, at, name_of(assign)) {
             Put::Done => shut(table, file),
             Put::Failed => fail(bench, table, files, at),
-            Put::NoMemory => Tried::NoMemory,
+            Put::NoMemory => Err(FileFault::NoMemory),
         },
     }
 }
@@ -84,20 +83,18 @@ fn close_if_open(bench: &mut Bench, table: &mut FileTable, files: &[FileEntry], 
     ensures shuts { (gone : List (List ℕ)) (left : ℕ) (old : List Seen) →
         AreShut gone (addresses_of files.now) table.old.rows →
         LeftOf (is_used (addresses_of files.now)) gone left bench.old.left old
-        (map ⟦<Box<dyn Device> as Watched>⟧.seen bench.old.devices.items) →
+        (⟦<Bench as Shown>⟧.all bench.old) →
         Shuts file (suc file) result (addresses_of files.now) gone left
-        bench.old.left bench.new.left old
-        (map ⟦<Box<dyn Device> as Watched>⟧.seen bench.old.devices.items)
-        (map ⟦<Box<dyn Device> as Watched>⟧.seen bench.new.devices.items)
-        table.old.rows table.new.rows }
+        bench.old.left bench.new.left old (⟦<Bench as Shown>⟧.all bench.old)
+        (⟦<Bench as Shown>⟧.all bench.new) table.old.rows table.new.rows }
 {
     if table.may_close(file) != 0 {
         return false;
     }
     match close(bench, table, files, file) {
-        Tried::Failed => true,
-        Tried::Status(_) => false,
-        Tried::NoMemory => false,
+        Ok(_) => false,
+        Err(FileFault::Device) => true,
+        Err(FileFault::NoMemory) => false,
     }
 }
 
@@ -112,10 +109,9 @@ pub fn close_open(bench: &mut Bench, table: &mut FileTable, files: &[FileEntry])
     ensures closes { (gone : List (List ℕ)) (left : ℕ) (old : List Seen) →
         AreShut gone (addresses_of files.now) table.old.rows →
         LeftOf (is_used (addresses_of files.now)) gone left bench.old.left old
-        (map ⟦<Box<dyn Device> as Watched>⟧.seen bench.old.devices.items) →
+        (⟦<Bench as Shown>⟧.all bench.old) →
         Closes result (addresses_of files.now) gone left bench.old.left bench.new.left old
-        (map ⟦<Box<dyn Device> as Watched>⟧.seen bench.old.devices.items)
-        (map ⟦<Box<dyn Device> as Watched>⟧.seen bench.new.devices.items) table.old.rows }
+        (⟦<Bench as Shown>⟧.all bench.old) (⟦<Bench as Shown>⟧.all bench.new) table.old.rows }
 {
     let mut failed = false;
     for file in 0..files.len() {

@@ -1,6 +1,6 @@
 //! OPEN.
 
-ghost use Rattle.std.specs.Prelude.{◌≡◌, ◌<◌, ◌^◌, Some, length, map, slice_get, slice_set, take};
+ghost use Rattle.std.specs.Prelude.{◌≡◌, ◌<◌, ◌^◌, Some, length, map, slice_get, slice_set, take, Ok};
 ghost use Rattle.file_model.specs.Attempts.{Address, opened_at};
 ghost use Rattle.file_model.specs.Status.{opened_row};
 ghost use Rattle.file_model.specs.World.{World};
@@ -10,21 +10,22 @@ ghost use Rattle.file_model.specs.operations.Seen.{device_found};
 
 use crate::operations::address::{device_of, is_refused, name_of};
 use crate::operations::calls::open_at;
+use crate::operations::fault::FileFault;
 use crate::operations::finding::first_of;
+use crate::operations::noting::noted;
 use crate::operations::taking::fail;
-use crate::operations::tried::{Tried, noted};
-use crate::operations::watched::Watched;
-use crate::{Bench, Device, FileTable, Opened};
+use crate::operations::watched::Shown;
+use crate::{Bench, FileTable, Opened};
 use cob_tree::{FileEntry, How};
 
-fn opened(table: &mut FileTable, file: u32, how: How) -> Tried
+fn opened(table: &mut FileTable, file: u32, how: How) -> Result<u8, FileFault>
     requires { file < length table.old.rows }
     ensures rows { length table.new.rows ≡ length table.old.rows }
-    ensures answer { result ≡ Tried.Status 0 }
+    ensures answer { result ≡ Ok 0 }
     ensures table { table.new.rows ≡ slice_set table.old.rows file (opened_row how) }
 {
     table.note_open(file, how);
-    Tried::Status(0)
+    Ok(0)
 }
 
 /// OPEN: status 41 where the file is open; 30 where its name can't be opened, another file of the
@@ -35,34 +36,26 @@ pub fn open(
     files: &[FileEntry],
     file: u32,
     how: How,
-) -> Tried
+) -> Result<u8, FileFault>
     requires rows { length table.old.rows ≡ length files.now }
     requires few { length files.now < 2 ^ 32 }
     requires file { file < length files.now }
     ensures rows { length table.new.rows ≡ length table.old.rows }
     ensures bench { (address : Address) → slice_get (addresses_of files.now) file ≡ Some address →
         Leaves result address.device bench.old.left bench.new.left
-        (map ⟦<Box<dyn Device> as Watched>⟧.seen bench.old.devices.items)
-        (map ⟦<Box<dyn Device> as Watched>⟧.seen bench.new.devices.items) }
+        (⟦<Bench as Shown>⟧.all bench.old) (⟦<Bench as Shown>⟧.all bench.new) }
     ensures notes { (address : Address) → slice_get (addresses_of files.now) file ≡ Some address →
         Notes result file address.device (addresses_of files.now) table.old.rows table.new.rows }
     ensures world { (world : World) (address : Address) →
         slice_get (addresses_of files.now) file ≡ Some address →
-        Stands (addresses_of files.now)
-        (take bench.old.left (map ⟦<Box<dyn Device> as Watched>⟧.seen bench.old.devices.items))
-        table.old.rows world →
-        IsTold (device_found address.device
-        (take bench.old.left (map ⟦<Box<dyn Device> as Watched>⟧.seen bench.old.devices.items))) →
-        Comes result (addresses_of files.now) address.device
-        (take bench.new.left (map ⟦<Box<dyn Device> as Watched>⟧.seen bench.new.devices.items))
+        Stands (addresses_of files.now) (⟦<Bench as Shown>⟧.on bench.old) table.old.rows world →
+        IsTold (device_found address.device (⟦<Bench as Shown>⟧.on bench.old)) →
+        Comes result (addresses_of files.now) address.device (⟦<Bench as Shown>⟧.on bench.new)
         table.new.rows world (opened_at world (addresses_of files.now) file address how) }
     ensures gone { (world : World) (address : Address) →
         slice_get (addresses_of files.now) file ≡ Some address →
-        Stands (addresses_of files.now)
-        (take bench.old.left (map ⟦<Box<dyn Device> as Watched>⟧.seen bench.old.devices.items))
-        table.old.rows world →
-        Breaks result (addresses_of files.now) address.device
-        (take bench.new.left (map ⟦<Box<dyn Device> as Watched>⟧.seen bench.new.devices.items))
+        Stands (addresses_of files.now) (⟦<Bench as Shown>⟧.on bench.old) table.old.rows world →
+        Breaks result (addresses_of files.now) address.device (⟦<Bench as Shown>⟧.on bench.new)
         table.new.rows world }
 {
     let status = table.may_open(file);
@@ -79,7 +72,7 @@ pub fn open(
             Opened::Ready => opened(table, file, how),
             Opened::Missing => noted(table, file, 35),
             Opened::Failed => fail(bench, table, files, at),
-            Opened::NoMemory => Tried::NoMemory,
+            Opened::NoMemory => Err(FileFault::NoMemory),
         },
     }
 }

@@ -1,6 +1,6 @@
 //! READ.
 
-ghost use Rattle.std.specs.Prelude.{◌≡◌, ◌==◌, if◌then◌else◌, true, false, ◌≤◌, ◌<◌, ◌^◌, IfSome, Some, length, map, slice_get, slice_set, take};
+ghost use Rattle.std.specs.Prelude.{◌≡◌, ◌==◌, if◌then◌else◌, true, false, ◌≤◌, ◌<◌, ◌^◌, IfSome, Some, length, map, slice_get, slice_set, take, Ok};
 ghost use Rattle.file_model.specs.Attempts.{Address, padded_to, read_at};
 ghost use Rattle.file_model.specs.Status.{read_row};
 ghost use Rattle.file_model.specs.World.{World};
@@ -10,11 +10,12 @@ ghost use Rattle.file_model.specs.operations.Standing.{IsTold, Stands};
 
 use crate::operations::address::{device_of, name_of};
 use crate::operations::calls::read_at;
+use crate::operations::fault::FileFault;
 use crate::operations::finding::first_of;
+use crate::operations::noting::noted;
 use crate::operations::taking::fail;
-use crate::operations::tried::{Tried, noted};
-use crate::operations::watched::Watched;
-use crate::{Bench, Device, FileTable, Got};
+use crate::operations::watched::Shown;
+use crate::{Bench, FileTable, Got};
 use cob_tree::FileEntry;
 
 // Fills the rest after so many bytes with spaces.
@@ -25,23 +26,23 @@ fn pad(into: &mut [u8], from: usize)
     into[from..].fill(b' ');
 }
 
-fn ended(table: &mut FileTable, file: u32) -> Tried
+fn ended(table: &mut FileTable, file: u32) -> Result<u8, FileFault>
     requires { file < length table.old.rows }
     ensures rows { length table.new.rows ≡ length table.old.rows }
-    ensures answer { result ≡ Tried.Status 10 }
+    ensures answer { result ≡ Ok 10 }
     ensures table { IfSome (slice_get table.old.rows file)
         (λ row. table.new.rows ≡ slice_set table.old.rows file (read_row true row)) }
 {
     table.note_read(file, true);
-    Tried::Status(10)
+    Ok(10)
 }
 
 // Notes what a READ gave: no bytes are the end.
-fn given(table: &mut FileTable, file: u32, into: &mut [u8], size: usize) -> Tried
+fn given(table: &mut FileTable, file: u32, into: &mut [u8], size: usize) -> Result<u8, FileFault>
     requires file { file < length table.old.rows }
     requires size { size ≤ length into.old }
     ensures rows { length table.new.rows ≡ length table.old.rows }
-    ensures answer { result ≡ Tried.Status (if size == 0 then 10 else 0) }
+    ensures answer { result ≡ Ok (if size == 0 then 10 else 0) }
     ensures table { IfSome (slice_get table.old.rows file)
         (λ row. table.new.rows ≡ slice_set table.old.rows file (read_row (size == 0) row)) }
     ensures record { (size == 0) ≡ false →
@@ -52,7 +53,7 @@ fn given(table: &mut FileTable, file: u32, into: &mut [u8], size: usize) -> Trie
     }
     pad(into, size);
     table.note_read(file, false);
-    Tried::Status(0)
+    Ok(0)
 }
 
 /// READ: status 47 unless the file is open as INPUT or I-O, 46 after its end, and 10 at its end.
@@ -63,43 +64,32 @@ pub fn read(
     files: &[FileEntry],
     file: u32,
     into: &mut [u8],
-) -> Tried
+) -> Result<u8, FileFault>
     requires rows { length table.old.rows ≡ length files.now }
     requires few { length files.now < 2 ^ 32 }
     requires file { file < length files.now }
     ensures rows { length table.new.rows ≡ length table.old.rows }
     ensures bench { (address : Address) → slice_get (addresses_of files.now) file ≡ Some address →
         Leaves result address.device bench.old.left bench.new.left
-        (map ⟦<Box<dyn Device> as Watched>⟧.seen bench.old.devices.items)
-        (map ⟦<Box<dyn Device> as Watched>⟧.seen bench.new.devices.items) }
+        (⟦<Bench as Shown>⟧.all bench.old) (⟦<Bench as Shown>⟧.all bench.new) }
     ensures notes { (address : Address) → slice_get (addresses_of files.now) file ≡ Some address →
         Notes result file address.device (addresses_of files.now) table.old.rows table.new.rows }
     ensures world { (world : World) (address : Address) →
         slice_get (addresses_of files.now) file ≡ Some address →
-        Stands (addresses_of files.now)
-        (take bench.old.left (map ⟦<Box<dyn Device> as Watched>⟧.seen bench.old.devices.items))
-        table.old.rows world →
-        IsTold (device_found address.device
-        (take bench.old.left (map ⟦<Box<dyn Device> as Watched>⟧.seen bench.old.devices.items))) →
-        Comes result (addresses_of files.now) address.device
-        (take bench.new.left (map ⟦<Box<dyn Device> as Watched>⟧.seen bench.new.devices.items))
+        Stands (addresses_of files.now) (⟦<Bench as Shown>⟧.on bench.old) table.old.rows world →
+        IsTold (device_found address.device (⟦<Bench as Shown>⟧.on bench.old)) →
+        Comes result (addresses_of files.now) address.device (⟦<Bench as Shown>⟧.on bench.new)
         table.new.rows world (read_at world file address (length into.old)) }
     ensures record { (world : World) (address : Address) →
         slice_get (addresses_of files.now) file ≡ Some address →
-        Stands (addresses_of files.now)
-        (take bench.old.left (map ⟦<Box<dyn Device> as Watched>⟧.seen bench.old.devices.items))
-        table.old.rows world →
-        IsTold (device_found address.device
-        (take bench.old.left (map ⟦<Box<dyn Device> as Watched>⟧.seen bench.old.devices.items))) →
-        result ≡ Tried.Status 0 →
+        Stands (addresses_of files.now) (⟦<Bench as Shown>⟧.on bench.old) table.old.rows world →
+        IsTold (device_found address.device (⟦<Bench as Shown>⟧.on bench.old)) →
+        result ≡ Ok 0 →
         into.new ≡ (read_at world file address (length into.old)).bytes }
     ensures gone { (world : World) (address : Address) →
         slice_get (addresses_of files.now) file ≡ Some address →
-        Stands (addresses_of files.now)
-        (take bench.old.left (map ⟦<Box<dyn Device> as Watched>⟧.seen bench.old.devices.items))
-        table.old.rows world →
-        Breaks result (addresses_of files.now) address.device
-        (take bench.new.left (map ⟦<Box<dyn Device> as Watched>⟧.seen bench.new.devices.items))
+        Stands (addresses_of files.now) (⟦<Bench as Shown>⟧.on bench.old) table.old.rows world →
+        Breaks result (addresses_of files.now) address.device (⟦<Bench as Shown>⟧.on bench.new)
         table.new.rows world }
 {
     let status = table.may_read(file);

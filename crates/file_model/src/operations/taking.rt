@@ -1,6 +1,6 @@
 //! A device that failed.
 
-ghost use Rattle.std.specs.Prelude.{◌≡◌, ◌≤◌, ◌<◌, ◌^◌, IfSome, if◌then◌else◌, length, map, slice_get, slice_set, vec_len};
+ghost use Rattle.std.specs.Prelude.{◌≡◌, ◌≤◌, ◌<◌, ◌^◌, IfSome, if◌then◌else◌, length, map, slice_get, slice_set, vec_len, Err};
 ghost use Rattle.std.specs.Str.{bytes_eq};
 ghost use Rattle.file_model.specs.Attempts.{address_of};
 ghost use Rattle.file_model.specs.Status.{closed_row};
@@ -9,18 +9,17 @@ ghost use Rattle.file_model.specs.operations.Standing.{rows_closed_on};
 
 use crate::operations::address::device_of;
 use crate::operations::calls::device_name;
-use crate::operations::tried::Tried;
-use crate::operations::watched::Watched;
-use crate::{Bench, Device, FileTable};
+use crate::operations::fault::FileFault;
+use crate::operations::watched::Shown;
+use crate::{Bench, FileTable};
 use cob_tree::FileEntry;
 
 // Takes a device off the bench: it becomes the first one after those that are left.
 fn take_off(bench: &mut Bench, at: usize)
     requires { at < bench.old.left }
     ensures within { bench.new.left < vec_len bench.new.devices }
-    ensures taken { TakenOff at bench.old.left bench.new.left
-        (map ⟦<Box<dyn Device> as Watched>⟧.seen bench.old.devices.items)
-        (map ⟦<Box<dyn Device> as Watched>⟧.seen bench.new.devices.items) }
+    ensures taken { TakenOff at bench.old.left bench.new.left (⟦<Bench as Shown>⟧.all bench.old)
+        (⟦<Bench as Shown>⟧.all bench.new) }
 {
     let left = bench.left;
     bench.devices[at..left].rotate_left(1);
@@ -50,21 +49,24 @@ fn close_rows(table: &mut FileTable, files: &[FileEntry], device: &[u8])
 }
 
 /// A device failed: it is taken off the bench, and the files of the program on it are closed.
-pub fn fail(bench: &mut Bench, table: &mut FileTable, files: &[FileEntry], at: usize) -> Tried
+pub fn fail(
+    bench: &mut Bench,
+    table: &mut FileTable,
+    files: &[FileEntry],
+    at: usize,
+) -> Result<u8, FileFault>
     requires place { at < bench.old.left }
     requires rows { length files.now ≤ length table.old.rows }
     requires few { length files.now < 2 ^ 32 }
     ensures rows { length table.new.rows ≡ length table.old.rows }
-    ensures answer { result ≡ Tried.Failed }
-    ensures bench { TakenOff at bench.old.left bench.new.left
-        (map ⟦<Box<dyn Device> as Watched>⟧.seen bench.old.devices.items)
-        (map ⟦<Box<dyn Device> as Watched>⟧.seen bench.new.devices.items) }
-    ensures table { IfSome
-        (slice_get (map ⟦<Box<dyn Device> as Watched>⟧.seen bench.old.devices.items) at)
+    ensures answer { result ≡ Err FileFault.Device }
+    ensures bench { TakenOff at bench.old.left bench.new.left (⟦<Bench as Shown>⟧.all bench.old)
+        (⟦<Bench as Shown>⟧.all bench.new) }
+    ensures table { IfSome (slice_get (⟦<Bench as Shown>⟧.all bench.old) at)
         (λ device. table.new.rows
         ≡ rows_closed_on device.name (addresses_of files.now) table.old.rows) }
 {
     take_off(bench, at);
     close_rows(table, files, device_name(&bench.devices[bench.left]));
-    Tried::Failed
+    Err(FileFault::Device)
 }

@@ -8,11 +8,12 @@ ghost use Rattle.file_model.specs.operations.Standing.{Stands};
 
 use crate::operations::address::{device_of, name_of};
 use crate::operations::calls::{rewrite_at, write_at};
+use crate::operations::fault::FileFault;
 use crate::operations::finding::first_of;
+use crate::operations::noting::noted;
 use crate::operations::taking::fail;
-use crate::operations::tried::{Tried, noted};
-use crate::operations::watched::Watched;
-use crate::{Bench, Device, FileTable, Put};
+use crate::operations::watched::Shown;
+use crate::{Bench, FileTable, Put};
 use cob_tree::FileEntry;
 
 /// WRITE: status 48 unless the file is open as OUTPUT or EXTEND.
@@ -22,24 +23,20 @@ pub fn write(
     files: &[FileEntry],
     file: u32,
     bytes: &[u8],
-) -> Tried
+) -> Result<u8, FileFault>
     requires rows { length table.old.rows ≡ length files.now }
     requires few { length files.now < 2 ^ 32 }
     requires file { file < length files.now }
     ensures rows { length table.new.rows ≡ length table.old.rows }
     ensures bench { (address : Address) → slice_get (addresses_of files.now) file ≡ Some address →
         Leaves result address.device bench.old.left bench.new.left
-        (map ⟦<Box<dyn Device> as Watched>⟧.seen bench.old.devices.items)
-        (map ⟦<Box<dyn Device> as Watched>⟧.seen bench.new.devices.items) }
+        (⟦<Bench as Shown>⟧.all bench.old) (⟦<Bench as Shown>⟧.all bench.new) }
     ensures notes { (address : Address) → slice_get (addresses_of files.now) file ≡ Some address →
         Notes result file address.device (addresses_of files.now) table.old.rows table.new.rows }
     ensures world { (world : World) (address : Address) →
         slice_get (addresses_of files.now) file ≡ Some address →
-        Stands (addresses_of files.now)
-        (take bench.old.left (map ⟦<Box<dyn Device> as Watched>⟧.seen bench.old.devices.items))
-        table.old.rows world →
-        Comes result (addresses_of files.now) address.device
-        (take bench.new.left (map ⟦<Box<dyn Device> as Watched>⟧.seen bench.new.devices.items))
+        Stands (addresses_of files.now) (⟦<Bench as Shown>⟧.on bench.old) table.old.rows world →
+        Comes result (addresses_of files.now) address.device (⟦<Bench as Shown>⟧.on bench.new)
         table.new.rows world (written_at world file address bytes.now) }
 {
     let status = table.may_write(file);
@@ -52,7 +49,7 @@ pub fn write(
         Some(at) => match write_at(bench, at, name_of(assign), bytes) {
             Put::Done => noted(table, file, 0),
             Put::Failed => fail(bench, table, files, at),
-            Put::NoMemory => Tried::NoMemory,
+            Put::NoMemory => Err(FileFault::NoMemory),
         },
     }
 }
@@ -65,24 +62,20 @@ pub fn rewrite(
     files: &[FileEntry],
     file: u32,
     bytes: &[u8],
-) -> Tried
+) -> Result<u8, FileFault>
     requires rows { length table.old.rows ≡ length files.now }
     requires few { length files.now < 2 ^ 32 }
     requires file { file < length files.now }
     ensures rows { length table.new.rows ≡ length table.old.rows }
     ensures bench { (address : Address) → slice_get (addresses_of files.now) file ≡ Some address →
         Leaves result address.device bench.old.left bench.new.left
-        (map ⟦<Box<dyn Device> as Watched>⟧.seen bench.old.devices.items)
-        (map ⟦<Box<dyn Device> as Watched>⟧.seen bench.new.devices.items) }
+        (⟦<Bench as Shown>⟧.all bench.old) (⟦<Bench as Shown>⟧.all bench.new) }
     ensures notes { (address : Address) → slice_get (addresses_of files.now) file ≡ Some address →
         Notes result file address.device (addresses_of files.now) table.old.rows table.new.rows }
     ensures world { (world : World) (address : Address) →
         slice_get (addresses_of files.now) file ≡ Some address →
-        Stands (addresses_of files.now)
-        (take bench.old.left (map ⟦<Box<dyn Device> as Watched>⟧.seen bench.old.devices.items))
-        table.old.rows world →
-        Comes result (addresses_of files.now) address.device
-        (take bench.new.left (map ⟦<Box<dyn Device> as Watched>⟧.seen bench.new.devices.items))
+        Stands (addresses_of files.now) (⟦<Bench as Shown>⟧.on bench.old) table.old.rows world →
+        Comes result (addresses_of files.now) address.device (⟦<Bench as Shown>⟧.on bench.new)
         table.new.rows world (rewritten_at world file address bytes.now) }
 {
     let status = table.may_rewrite(file);
@@ -95,7 +88,7 @@ pub fn rewrite(
         Some(at) => match rewrite_at(bench, at, name_of(assign), bytes) {
             Put::Done => noted(table, file, 0),
             Put::Failed => fail(bench, table, files, at),
-            Put::NoMemory => Tried::NoMemory,
+            Put::NoMemory => Err(FileFault::NoMemory),
         },
     }
 }

@@ -9,7 +9,7 @@ ghost use Rattle.parser_combinators.specs.words.Constant as constants;
 
 use crate::{Cursor, Position, Unread, Why};
 use cob_base::Word;
-use cob_tree::{Digits, Figure, Number, Operand};
+use cob_tree::{Figure, Number, Operand, SpelledDigits};
 use cobol_lex::TokenKind;
 use std::alloc::Global;
 
@@ -118,7 +118,7 @@ fn whole_number(alloc: Global, cursor: &mut Cursor<'_>) -> Result<(Operand, Posi
     let (digits, position) = cursor.digits(alloc)?;
     let number = Number {
         negative: false,
-        digits: Digits::new(digits),
+        digits: SpelledDigits::new(digits),
         scale: 0,
     };
     Ok((Operand::Number(number), position))

@@ -1,7 +1,5 @@
 -- The bench of a call, before it and after it.
-use Rattle.std.specs.Prelude.{ℕ, ◌≡◌, List, map, take}
-use Rattle.std.specs.declared.alloc.Global.{Global}
-use Rattle.std.specs.declared.dyn_box.DynBox.{DynBox}
+use Rattle.std.specs.Prelude.{ℕ, ◌≡◌, List, take}
 use Rattle.file_model.specs.declared.bench.Bench.{Bench}
 use Rattle.file_model.specs.operations.Seen.{Seen}
 
@@ -17,14 +15,14 @@ pub record BenchCall : Type 0 where
   -- the devices after the call
   pub new : List Seen
 
--- a call's bench, by what contracts see of a device in its box, and the bench before and after
+-- a call's bench, by what contracts see of a bench's devices, and the bench before and after
 abbrev pub bench_call : {Table : Type 0} {Held : Table → Type 0} →
-    (DynBox Table Global Held → Seen) → Bench Table Held → Bench Table Held → BenchCall
-bench_call seen old new = record {
+    (Bench Table Held → List Seen) → Bench Table Held → Bench Table Held → BenchCall
+bench_call devices old new = record {
   left = old.left;
   left_now = new.left;
-  old = map seen old.devices.items;
-  new = map seen new.devices.items;
+  old = devices old;
+  new = devices new;
 }
 
 -- the devices that were on the bench

@@ -108,6 +108,7 @@ pub fn bare(alloc: Global) -> Bench {
 
 fn answer(alloc: Global, words: Vec<String>, ends: &mut Ends) -> Status {
     let mut bench = bare(alloc);
+    let mut second = bare(alloc);
     program(
         alloc,
         Ok(words),
@@ -115,6 +116,7 @@ fn answer(alloc: Global, words: Vec<String>, ends: &mut Ends) -> Status {
         &mut ends.out,
         &mut ends.notes,
         &mut bench,
+        &mut second,
     )
 }
 
@@ -158,6 +160,15 @@ pub fn expect_of_tool<S: Source>(
 ) {
     let mut out = ample(alloc);
     let mut notes = ample(alloc);
-    let status = tool(alloc, words, source, &mut out, &mut notes, bench);
+    let mut second = bare(alloc);
+    let status = tool(
+        alloc,
+        words,
+        source,
+        &mut out,
+        &mut notes,
+        bench,
+        &mut second,
+    );
     expect(rt, status, &out, &notes, wanted);
 }

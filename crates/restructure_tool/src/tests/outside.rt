@@ -93,6 +93,7 @@ fn expect_full(rt: &impl Abort, alloc: Global, words: Vec<String>) {
     let mut out = StdSink::new(Full);
     let mut notes = ample(alloc);
     let mut bench = bare(alloc);
+    let mut second = bare(alloc);
     let status = program(
         alloc,
         Ok(words),
@@ -100,6 +101,7 @@ fn expect_full(rt: &impl Abort, alloc: Global, words: Vec<String>) {
         &mut out,
         &mut notes,
         &mut bench,
+        &mut second,
     );
     assert_eq!(rt; status, Status::WriteFault);
     assert_eq!(rt; notes.held.as_slice(), b"WRITE FAULT\n".as_slice());
@@ -121,6 +123,7 @@ fn want_of_memory_for_the_words_is_told(rt: HostRuntime) {
     let mut out = ample(alloc);
     let mut notes = ample(alloc);
     let mut bench = bare(alloc);
+    let mut second = bare(alloc);
     let status = program(
         alloc,
         Err(NoMemory),
@@ -128,6 +131,7 @@ fn want_of_memory_for_the_words_is_told(rt: HostRuntime) {
         &mut out,
         &mut notes,
         &mut bench,
+        &mut second,
     );
     assert_eq!(rt; status, Status::NoMemory);
     assert_eq!(rt; out.held.len(), 0);

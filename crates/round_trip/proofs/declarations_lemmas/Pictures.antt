@@ -11,10 +11,10 @@ use Rattle.picture_data.specs.declared.fault.Flaw.{Flaw}
 use Rattle.picture_data.specs.declared.fault.Flaw.TheVariants as flaws
 use Rattle.picture_data.specs.declared.reading.SymbolPosition.{SymbolPosition}
 use Rattle.picture_data.specs.declared.reading.SymbolPosition.TheVariants as places
-use Rattle.picture_data.specs.declared.reading.Reading.{Reading}
-use Rattle.picture_data.specs.declared.symbols.Shape.{Shape}
-use Rattle.picture_data.specs.declared.symbols.Shape.TheVariants as shapes
-use Rattle.picture_data.specs.declared.symbols.Symbols.{Symbols}
+use Rattle.picture_data.specs.declared.reading.PictureReading.{PictureReading}
+use Rattle.picture_data.specs.declared.symbols.PictureShape.{PictureShape}
+use Rattle.picture_data.specs.declared.symbols.PictureShape.TheVariants as shapes
+use Rattle.picture_data.specs.declared.symbols.PictureSymbols.{PictureSymbols}
 use Rattle.picture_data.specs.Symbols.{symbol_s, symbol_v, symbol_9, symbol_a, symbol_x, behind, behind_sign, behind_point, behind_nine, behind_letter, behind_any, most, counted, added, too_many, picture_by, number}
 use Rattle.picture_data.specs.Reading.{read_from, step, step_by, symbol_by, placed, kept, digit, closed, in_count, finish, finish_by, ended, start, flaw_of, plain_picture, picture_of}
 use Rattle.picture_data.specs.Edited.{first_plain, is_edited, edited_picture, edited_by, picture_by as picture_by_mask}
@@ -25,33 +25,33 @@ use Rattle.edit_fields.proofs.HeldMasks.{held_of}
 use Rattle.round_trip.specs.declarations.printed_pictures.Writable.{IsWritable}
 
 -- letters and other characters: one at least, and no more than their limit
-abbrev Sized : Shape → Symbols → Type 0
+abbrev Sized : PictureShape → PictureSymbols → Type 0
 Sized shapes.Letters symbols = (1 ≤ symbols.whole) × (symbols.whole ≤ 65535)
 Sized shapes.Any symbols = (1 ≤ symbols.whole) × (symbols.whole ≤ 65535)
 Sized _ symbols = Unit {0}
 
-abbrev AreSized : Symbols → Type 0
+abbrev AreSized : PictureSymbols → Type 0
 AreSized symbols = Sized symbols.shape symbols
 
 -- what is read so far, if there is no flaw, is so
-abbrev Keeps : Result Reading Flaw → Type 0
+abbrev Keeps : Result PictureReading Flaw → Type 0
 Keeps (Err flaw) = Unit {0}
 Keeps (Ok reading) = AreSized reading.symbols
 
-abbrev some_symbols : Shape → ℕ → ℕ → Symbols
+abbrev some_symbols : PictureShape → ℕ → ℕ → PictureSymbols
 some_symbols shape whole part = record { shape = shape; whole = whole; part = part }
 
 -- letters and other characters are one at least
-abbrev IsSome : Shape → ℕ → Type 0
+abbrev IsSome : PictureShape → ℕ → Type 0
 IsSome shapes.Letters count = 1 ≤ count
 IsSome shapes.Any count = 1 ≤ count
 IsSome _ count = Unit {0}
 
 -- so many more of the last symbol
-added-keeps : (place : SymbolPosition) (count whole part : ℕ) (shape : Shape) → IsSome shape (whole + count) → Keeps (placed place (added count (some_symbols shape whole part)))
+added-keeps : (place : SymbolPosition) (count whole part : ℕ) (shape : PictureShape) → IsSome shape (whole + count) → Keeps (placed place (added count (some_symbols shape whole part)))
 added-keeps place count whole part shape some = go shape some (nat_le (whole + part + count) (most shape)) refl
   where
-    go : (s : Shape) → IsSome s (whole + count) → (b : Bool) → nat_le (whole + part + count) (most s) ≡ b →
+    go : (s : PictureShape) → IsSome s (whole + count) → (b : Bool) → nat_le (whole + part + count) (most s) ≡ b →
         Keeps (placed place (if b then Ok (counted count (some_symbols s whole part) s) else Err (too_many s)))
     go s n false e = tt
     go shapes.Start n true e = tt
@@ -61,7 +61,7 @@ added-keeps place count whole part shape some = go shape some (nat_le (whole + p
     go shapes.Letters n true e = let few = leb-true (whole + part + count) 65535 e in (n, omega (arith, few))
     go shapes.Any n true e = let few = leb-true (whole + part + count) 65535 e in (n, omega (arith, few))
 
-first-some : (whole : ℕ) (shape : Shape) → IsSome shape (whole + 1)
+first-some : (whole : ℕ) (shape : PictureShape) → IsSome shape (whole + 1)
 first-some whole shapes.Start = tt
 first-some whole shapes.Nines = tt
 first-some whole shapes.Signed = tt
@@ -69,7 +69,7 @@ first-some whole (shapes.Point signed) = tt
 first-some whole shapes.Letters = omega arith
 first-some whole shapes.Any = omega arith
 
-more-some : (count whole part : ℕ) (shape : Shape) → Sized shape (some_symbols shape whole part) → IsSome shape (whole + count)
+more-some : (count whole part : ℕ) (shape : PictureShape) → Sized shape (some_symbols shape whole part) → IsSome shape (whole + count)
 more-some count whole part shapes.Start h = tt
 more-some count whole part shapes.Nines h = tt
 more-some count whole part shapes.Signed h = tt
@@ -77,10 +77,10 @@ more-some count whole part (shapes.Point signed) h = tt
 more-some count whole part shapes.Letters h = omega (arith, h.0)
 more-some count whole part shapes.Any h = omega (arith, h.0)
 
-some-is : {x y : Shape} → Some x ≡ Some y → x ≡ y
+some-is : {x y : PictureShape} → Some x ≡ Some y → x ≡ y
 some-is e = cc
 
-sign-some : (shape next : Shape) (n : ℕ) → behind_sign shape ≡ Some next → IsSome next n
+sign-some : (shape next : PictureShape) (n : ℕ) → behind_sign shape ≡ Some next → IsSome next n
 sign-some shapes.Start next n e = subst (λ s. IsSome s n) (some-is e) tt
 sign-some shapes.Nines next n e = absurd cc
 sign-some shapes.Signed next n e = absurd cc
@@ -88,7 +88,7 @@ sign-some (shapes.Point signed) next n e = absurd cc
 sign-some shapes.Letters next n e = absurd cc
 sign-some shapes.Any next n e = absurd cc
 
-point-some : (shape next : Shape) (n : ℕ) → behind_point shape ≡ Some next → IsSome next n
+point-some : (shape next : PictureShape) (n : ℕ) → behind_point shape ≡ Some next → IsSome next n
 point-some shapes.Start next n e = subst (λ s. IsSome s n) (some-is e) tt
 point-some shapes.Nines next n e = subst (λ s. IsSome s n) (some-is e) tt
 point-some shapes.Signed next n e = subst (λ s. IsSome s n) (some-is e) tt
@@ -97,7 +97,7 @@ point-some shapes.Letters next n e = absurd cc
 point-some shapes.Any next n e = absurd cc
 
 -- S and V make a number
-number-some : (byte : ℕ) (shape next : Shape) (n : ℕ) → (byte == symbol_s || byte == symbol_v) ≡ true → behind byte shape ≡ Some next → IsSome next n
+number-some : (byte : ℕ) (shape next : PictureShape) (n : ℕ) → (byte == symbol_s || byte == symbol_v) ≡ true → behind byte shape ≡ Some next → IsSome next n
 number-some byte shape next n e f = go (byte == symbol_s) (byte == symbol_v) e f
   where
     go : (s v : Bool) → (s || v) ≡ true →
@@ -108,10 +108,10 @@ number-some byte shape next n e f = go (byte == symbol_s) (byte == symbol_v) e f
     go false true e f = point-some shape next n f
     go false false e f = absurd cc
 
-symbol-keeps : (byte : ℕ) (symbols : Symbols) → Keeps (symbol_by byte (behind byte symbols.shape) symbols)
+symbol-keeps : (byte : ℕ) (symbols : PictureSymbols) → Keeps (symbol_by byte (behind byte symbols.shape) symbols)
 symbol-keeps byte symbols = go (behind byte symbols.shape) refl
   where
-    go : (o : Option Shape) → behind byte symbols.shape ≡ o → Keeps (symbol_by byte o symbols)
+    go : (o : Option PictureShape) → behind byte symbols.shape ≡ o → Keeps (symbol_by byte o symbols)
     go None e = tt
     go (Some next) e = by (byte == symbol_s || byte == symbol_v) refl
       where
@@ -122,10 +122,10 @@ symbol-keeps byte symbols = go (behind byte symbols.shape) refl
 
 -- ---- a count
 
-digit-keeps : (count d : ℕ) (reading : Reading) → AreSized reading.symbols → Keeps (digit count d reading)
+digit-keeps : (count d : ℕ) (reading : PictureReading) → AreSized reading.symbols → Keeps (digit count d reading)
 digit-keeps count d reading h = go (nat_le (count * 10 + d) 65535)
   where
-    by : (r : Result Symbols Flaw) → Keeps (kept (places.Count (count * 10 + d)) reading.symbols r)
+    by : (r : Result PictureSymbols Flaw) → Keeps (kept (places.Count (count * 10 + d)) reading.symbols r)
     by (Ok symbols) = h
     by (Err flaw) = tt
 
@@ -133,7 +133,7 @@ digit-keeps count d reading h = go (nat_le (count * 10 + d) 65535)
     go true = by (added (count * 10 + d - 1) reading.symbols)
     go false = tt
 
-closed-keeps : (count : ℕ) (reading : Reading) → AreSized reading.symbols → Keeps (closed count reading)
+closed-keeps : (count : ℕ) (reading : PictureReading) → AreSized reading.symbols → Keeps (closed count reading)
 closed-keeps count reading h = go (count == 0)
   where
     go : (b : Bool) → Keeps (if b then Err flaws.Order else placed places.Open (added (count - 1) reading.symbols))
@@ -142,7 +142,7 @@ closed-keeps count reading h = go (count == 0)
         added-keeps places.Open (count - 1) reading.symbols.whole reading.symbols.part reading.symbols.shape
         (more-some (count - 1) reading.symbols.whole reading.symbols.part reading.symbols.shape h)
 
-count-keeps : (count byte : ℕ) (reading : Reading) → AreSized reading.symbols → Keeps (in_count count byte reading)
+count-keeps : (count byte : ℕ) (reading : PictureReading) → AreSized reading.symbols → Keeps (in_count count byte reading)
 count-keeps count byte reading h = go (nat_le digit_0 byte && nat_le byte digit_9) (byte == right_parenthesis)
   where
     go : (d c : Bool) → Keeps (if d then digit count (byte - digit_0) reading else if c then closed count reading else Err (flaw_of byte))
@@ -152,7 +152,7 @@ count-keeps count byte reading h = go (nat_le digit_0 byte && nat_le byte digit_
 
 -- ---- a byte, and the end
 
-step-keeps : (byte : ℕ) (reading : Reading) → AreSized reading.symbols → Keeps (step byte reading)
+step-keeps : (byte : ℕ) (reading : PictureReading) → AreSized reading.symbols → Keeps (step byte reading)
 unfolding step
 step-keeps byte reading h = go reading.place
   where
@@ -181,7 +181,7 @@ number-writable signed whole part = go (whole + part == 0) (nat_le (whole + part
         some : (n : ℕ) → (n == 0) ≡ false → 1 ≤ n
         some n e = grind (arith, nat_tests)
 
-picture-writable : (shape : Shape) (symbols : Symbols) → Sized shape symbols → Writable (picture_by shape symbols)
+picture-writable : (shape : PictureShape) (symbols : PictureSymbols) → Sized shape symbols → Writable (picture_by shape symbols)
 picture-writable shapes.Start symbols h = tt
 picture-writable shapes.Nines symbols h = number-writable false symbols.whole 0
 picture-writable shapes.Signed symbols h = number-writable true symbols.whole 0
@@ -189,7 +189,7 @@ picture-writable (shapes.Point signed) symbols h = number-writable signed symbol
 picture-writable shapes.Letters symbols h = h
 picture-writable shapes.Any symbols h = h
 
-finish-writable : (reading : Reading) → AreSized reading.symbols → Writable (finish reading)
+finish-writable : (reading : PictureReading) → AreSized reading.symbols → Writable (finish reading)
 unfolding finish
 finish-writable reading h = go reading.place
   where
@@ -202,7 +202,7 @@ ended-writable : (count : ℕ) (r : Result Picture Flaw) → Writable r → Writ
 ended-writable count (Ok picture) h = h
 ended-writable count (Err flaw) h = tt
 
-read-writable : (count : ℕ) (r : Result Reading Flaw) (text : List ℕ) → Keeps r → Writable (read_from count r text)
+read-writable : (count : ℕ) (r : Result PictureReading Flaw) (text : List ℕ) → Keeps r → Writable (read_from count r text)
 unfolding read_from
 read-writable count (Err flaw) text h = tt
 read-writable count (Ok reading) [] h = ended-writable count (finish reading) (finish-writable reading h)

@@ -9,7 +9,7 @@ ghost use Rattle.cobol_theory.specs.cell_serving.Entries.{whole_literal};
 ghost use Rattle.cobol_theory.specs.cell_serving.Naming.{numbers_from};
 
 use cob_base::{Items, NoMemory};
-use cob_tree::{Cond, Digits, Expr, Number, Operand, Place, Rel, Test as WhenTest};
+use cob_tree::{Cond, Expr, Number, Operand, Place, Rel, SpelledDigits, Test as WhenTest};
 use cob_words::numbered::numbered_text;
 use std::alloc::Global;
 
@@ -20,7 +20,7 @@ pub fn whole_literal(alloc: Global, value: u32) -> Result<Number, NoMemory>
     let digits = numbered_text(alloc, &[], value)?;
     Ok(Number {
         negative: false,
-        digits: Digits::new(digits),
+        digits: SpelledDigits::new(digits),
         scale: 0,
     })
 }

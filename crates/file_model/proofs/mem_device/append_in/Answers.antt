@@ -1,8 +1,7 @@
-use Rattle.std.proofs.Common.{refl, sym, ap, ◌∙◌, arith}
+use Rattle.std.proofs.Common.{refl, ap, ◌∙◌}
 use Rattle.std.proofs.lemmas.Option.{slice_get_read}
-use Rattle.std.specs.Option.{option_map}
 use Rattle.std.proofs.Common.{Some}
-use Rattle.file_model.specs.Told.{appended, replaced, shut}
+use Rattle.file_model.specs.Told.{appended}
 use Rattle.file_model.proofs.Firsts.{put_first}
 use Rattle.file_model.proofs.mem_device.append_in.Goals as goal
 

@@ -1,4 +1,4 @@
-use Rattle.std.proofs.Common.{refl, sym, ap, ◌∙◌, arith}
+use Rattle.std.proofs.Common.{refl, sym, ap}
 use Rattle.std.proofs.lemmas.Option.{slice_get_read}
 use Rattle.file_model.specs.Told.{shut}
 use Rattle.file_model.proofs.Firsts.{put_first}

@@ -1,4 +1,4 @@
-use Rattle.std.proofs.Common.{refl, sym, ap, ◌∙◌, arith}
+use Rattle.std.proofs.Common.{refl, sym, ◌∙◌, arith}
 use Rattle.std.proofs.lemmas.Option.{slice_get_read}
 use Rattle.file_model.proofs.Firsts.{first_file, no_file, others_more}
 use Rattle.file_model.proofs.mem_device.find.Goals as goal

@@ -1,4 +1,4 @@
-use Rattle.std.proofs.Common.{refl, sym, ap, ◌∙◌, arith, Some}
+use Rattle.std.proofs.Common.{refl, ap, ◌∙◌, Some}
 use Rattle.std.proofs.lemmas.Option.{slice_get_read}
 use Rattle.file_model.proofs.Firsts.{reads_first}
 use Rattle.file_model.proofs.mem_device.read_in.Goals as goal

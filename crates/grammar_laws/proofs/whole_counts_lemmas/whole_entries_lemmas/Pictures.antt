@@ -8,10 +8,10 @@ use Rattle.picture_data.specs.declared.fault.Flaw.{Flaw}
 use Rattle.picture_data.specs.declared.fault.Flaw.TheVariants as flaws
 use Rattle.picture_data.specs.declared.reading.SymbolPosition.{SymbolPosition}
 use Rattle.picture_data.specs.declared.reading.SymbolPosition.TheVariants as places
-use Rattle.picture_data.specs.declared.reading.Reading.{Reading}
-use Rattle.picture_data.specs.declared.symbols.Shape.{Shape}
-use Rattle.picture_data.specs.declared.symbols.Shape.TheVariants as shapes
-use Rattle.picture_data.specs.declared.symbols.Symbols.{Symbols}
+use Rattle.picture_data.specs.declared.reading.PictureReading.{PictureReading}
+use Rattle.picture_data.specs.declared.symbols.PictureShape.{PictureShape}
+use Rattle.picture_data.specs.declared.symbols.PictureShape.TheVariants as shapes
+use Rattle.picture_data.specs.declared.symbols.PictureSymbols.{PictureSymbols}
 use Rattle.edit_fields.specs.declared.fault.MaskFault.{MaskFault}
 use Rattle.edit_fields.specs.Mask.{held}
 use Rattle.picture_data.specs.Edited.{first_plain, is_edited, edited_picture, edited_by, picture_by as mask_picture}
@@ -33,7 +33,7 @@ number-short count signed whole part = go (whole + part == 0) (nat_le (whole + p
     go false true e = e
     go false false e = refl
 
-symbols-short : (count : ℕ) (shape : Shape) (symbols : Symbols) → Short count (picture_by shape symbols)
+symbols-short : (count : ℕ) (shape : PictureShape) (symbols : PictureSymbols) → Short count (picture_by shape symbols)
 symbols-short count shapes.Start symbols = refl
 symbols-short count shapes.Nines symbols = number-short count false symbols.whole 0
 symbols-short count shapes.Signed symbols = number-short count true symbols.whole 0
@@ -41,16 +41,16 @@ symbols-short count (shapes.Point signed) symbols = number-short count signed sy
 symbols-short count shapes.Letters symbols = refl
 symbols-short count shapes.Any symbols = refl
 
-finish-short : (count : ℕ) (place : SymbolPosition) (symbols : Symbols) → Short count (finish_by place symbols)
+finish-short : (count : ℕ) (place : SymbolPosition) (symbols : PictureSymbols) → Short count (finish_by place symbols)
 finish-short count (places.Count n) symbols = refl
 finish-short count places.Open symbols = symbols-short count symbols.shape symbols
 finish-short count places.Behind symbols = symbols-short count symbols.shape symbols
 
-finished-short : (count : ℕ) (reading : Reading) → Short count (finish reading)
+finished-short : (count : ℕ) (reading : PictureReading) → Short count (finish reading)
 unfolding finish
 finished-short count reading = finish-short count reading.place reading.symbols
 
-read-short : (count : ℕ) (reading : Result Reading Flaw) (text : List ℕ) → is_short (picture_if (read_from count reading text)) ≡ true
+read-short : (count : ℕ) (reading : Result PictureReading Flaw) (text : List ℕ) → is_short (picture_if (read_from count reading text)) ≡ true
 unfolding read_from
 read-short count (Err flaw) text = refl
 read-short count (Ok reading) [] = finished-short count reading

@@ -12,4 +12,4 @@ returns-in-len2-clause-asked c =
 
 pub returns-in-len3-clause-asked : goal.returns-in-len3-clause-asked
 returns-in-len3-clause-asked c =
-    three-asked string_bytes c.args.words.now c.word-item-then-words-lt4.result c.option-item.result c.number-item.result _ _ _ _ c.in-len3.len_at_least c.in-len3.len_below c.word-item-then-words-lt4.is c.option-item.is c.number-item.is c.as_str-in-len3.ensures.value c.as_str-in-len3-2.ensures.value c.as_str-in-len3-3.ensures.value c.run_of.ensures.asked
+    three-asked string_bytes c.args.words.now c.word-item-then-words-lt4.result c.option-item.result c.number-item.result _ _ _ _ c.in-len3.len_at_least c.in-len3.len_below c.word-item-then-words-lt4.is c.option-item.is c.number-item.is c.as_str-in-len3.ensures.value c.as_str-in-len3-2.ensures.value c.as_str-in-len3-3.ensures.value c.steps_of.ensures.asked

@@ -1,6 +1,6 @@
 use Rattle.std.proofs.Common.{Err, ap, inr, refl, subst}
 use Rattle.cob_base.specs.Sink.{sink_call}
-use Rattle.file_model.specs.contracts.operations.watched.BoxDynDeviceWatched.TheImpl.{seen-value}
+use Rattle.file_model.specs.contracts.operations.watched.BenchShown.TheImpl.{all-value}
 use Rattle.restructure_core.specs.run.Answers.{Comes, ComesOver}
 use Rattle.restructure_core.specs.run.Bench.{bench_call}
 use Rattle.restructure_asks.proofs.DeviceLemmas.{device_told, unrun_never}
@@ -18,7 +18,7 @@ pub returns-in-Ok-clause-over : goal.returns-in-Ok-clause-over
 returns-in-Ok-clause-over g c =
     let out = sink_call g.K.Sink.held g.K.Sink.faults c.args.out.now c.run_source-came.new.out in
     let came = c.run_source-came.result in
-    let bench = bench_call (seen-value g.dyn-1).it c.args.bench.now c.run_source-came.new.bench in
+    let bench = bench_call (all-value g.dyn-1).it c.args.bench.now c.run_source-came.new.bench in
     over-run c.args.steps _ out c.in-Ok.bytes c.in-Ok.ensures.read came _ _ bench
     (subst (λ b. Comes b c.args.steps out came) c.as_slice.ensures c.run_source-came.ensures.came)
     (subst (λ b. ComesOver b c.args.steps out bench came) c.as_slice.ensures c.run_source-came.ensures.over)

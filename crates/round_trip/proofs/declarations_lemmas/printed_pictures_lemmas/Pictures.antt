@@ -12,10 +12,10 @@ use Rattle.cob_tree.specs.declared.picture.Picture.TheVariants as pictures
 use Rattle.picture_data.specs.declared.fault.Flaw.TheVariants as flaws
 use Rattle.picture_data.specs.declared.reading.SymbolPosition.{SymbolPosition}
 use Rattle.picture_data.specs.declared.reading.SymbolPosition.TheVariants as places
-use Rattle.picture_data.specs.declared.reading.Reading.{Reading}
-use Rattle.picture_data.specs.declared.symbols.Shape.{Shape}
-use Rattle.picture_data.specs.declared.symbols.Shape.TheVariants as shapes
-use Rattle.picture_data.specs.declared.symbols.Symbols.{Symbols}
+use Rattle.picture_data.specs.declared.reading.PictureReading.{PictureReading}
+use Rattle.picture_data.specs.declared.symbols.PictureShape.{PictureShape}
+use Rattle.picture_data.specs.declared.symbols.PictureShape.TheVariants as shapes
+use Rattle.picture_data.specs.declared.symbols.PictureSymbols.{PictureSymbols}
 use Rattle.picture_data.specs.Symbols.{symbol_s, symbol_v, behind, most, counted, added, too_many, picture, picture_by, number}
 use Rattle.picture_data.specs.Reading.{read_from, step, step_by, symbol_by, placed, kept, digit, closed, finish, ended, start, flaw_of, plain_picture, picture_of}
 use Rattle.picture_data.specs.Edited.{is_edited, edited_picture}
@@ -25,27 +25,27 @@ use Rattle.round_trip.proofs.declarations_lemmas.printed_pictures_lemmas.Masks.{
 use Rattle.round_trip.proofs.declarations_lemmas.printed_pictures_lemmas.Plain.{quiet-s, digits-plain, letters-plain, any-plain}
 
 -- from here on this picture is read, whatever was before
-abbrev Gives : Reading → List ℕ → Picture → Type 0
+abbrev Gives : PictureReading → List ℕ → Picture → Type 0
 Gives reading rest picture = (n : ℕ) → read_from n (Ok reading) rest ≡ Ok picture
 
-byte-on : (byte : ℕ) (reading next : Reading) (rest : List ℕ) (picture : Picture) → step (to_ascii_uppercase byte) reading ≡ Ok next → Gives next rest picture → Gives reading (byte ∷ rest) picture
+byte-on : (byte : ℕ) (reading next : PictureReading) (rest : List ℕ) (picture : Picture) → step (to_ascii_uppercase byte) reading ≡ Ok next → Gives next rest picture → Gives reading (byte ∷ rest) picture
 unfolding read_from
 byte-on byte reading next rest picture e h n = ap (λ made. read_from (n + 1) made rest) e ∙ h (n + 1)
 
-at-end : (reading : Reading) (picture : Picture) → finish reading ≡ Ok picture → Gives reading [] picture
+at-end : (reading : PictureReading) (picture : Picture) → finish reading ≡ Ok picture → Gives reading [] picture
 unfolding read_from
 at-end reading picture e n = ap (ended n) e
 
-abbrev at : Symbols → SymbolPosition → Reading
+abbrev at : PictureSymbols → SymbolPosition → PictureReading
 at symbols place = record { symbols = symbols; place = place }
 
 -- ---- the digits of a count
 
 -- so many more are within the limit
-abbrev Fits : ℕ → Symbols → Type 0
+abbrev Fits : ℕ → PictureSymbols → Type 0
 Fits count symbols = symbols.whole + symbols.part + count ≤ most symbols.shape
 
-fits : (count : ℕ) (symbols : Symbols) → Fits count symbols → added count symbols ≡ Ok (counted count symbols symbols.shape)
+fits : (count : ℕ) (symbols : PictureSymbols) → Fits count symbols → added count symbols ≡ Ok (counted count symbols symbols.shape)
 fits count symbols h =
     ap (λ b. if b then Ok (counted count symbols symbols.shape) else Err (too_many symbols.shape)) (le-leb (symbols.whole + symbols.part + count) (most symbols.shape) h)
 
@@ -55,11 +55,11 @@ upper-digit d h = grind (arith, nat_tests)
 is-digit : (d : ℕ) → d < 10 → (nat_le digit_0 (48 + d) && nat_le (48 + d) digit_9) ≡ true
 is-digit d h = grind (arith, nat_tests)
 
-digit-read : (symbols : Symbols) (count d : ℕ) → d < 10 → count * 10 + d ≤ 65535 → Fits (count * 10 + d - 1) symbols →
+digit-read : (symbols : PictureSymbols) (count d : ℕ) → d < 10 → count * 10 + d ≤ 65535 → Fits (count * 10 + d - 1) symbols →
     step (to_ascii_uppercase (48 + d)) (at symbols (places.Count count)) ≡ Ok (at symbols (places.Count (count * 10 + d)))
 unfolding step
 digit-read symbols count d h small f =
-    let reading : Reading = at symbols (places.Count count) in
+    let reading : PictureReading = at symbols (places.Count count) in
     let back : (48 + d) - digit_0 ≡ d = omega arith in
     ap (λ b. step b reading) (upper-digit d h)
     ∙ ap (λ t. if t then digit count ((48 + d) - digit_0) reading else (if (48 + d) == right_parenthesis then closed count reading else Err (flaw_of (48 + d)))) (is-digit d h)
@@ -69,7 +69,7 @@ digit-read symbols count d h small f =
 
 -- the digits of a count, from its first on
 abbrev Counts : ℕ → List ℕ → Type 0
-Counts m ds = (symbols : Symbols) (rest : List ℕ) (picture : Picture) → m ≤ 65535 → Fits (m - 1) symbols → Gives (at symbols (places.Count m)) rest picture → Gives (at symbols (places.Count 0)) (ds ++ rest) picture
+Counts m ds = (symbols : PictureSymbols) (rest : List ℕ) (picture : Picture) → m ≤ 65535 → Fits (m - 1) symbols → Gives (at symbols (places.Count m)) rest picture → Gives (at symbols (places.Count 0)) (ds ++ rest) picture
 
 counts : (m : ℕ) → m < 2 ^ 64 → Counts m (decimal m)
 counts = decimal_by_steps Counts one more
@@ -99,7 +99,7 @@ abbrev IsBetween : SymbolPosition → Type 0
 IsBetween (places.Count count) = ⊥
 IsBetween _ = Unit {0}
 
-symbol-read : (symbol : ℕ) (symbols : Symbols) (place : SymbolPosition) (shape : Shape) → IsCounted symbol → IsBetween place → behind symbol symbols.shape ≡ Some shape → Fits 1 (record symbols { shape = shape }) →
+symbol-read : (symbol : ℕ) (symbols : PictureSymbols) (place : SymbolPosition) (shape : PictureShape) → IsCounted symbol → IsBetween place → behind symbol symbols.shape ≡ Some shape → Fits 1 (record symbols { shape = shape }) →
     step (to_ascii_uppercase symbol) (at symbols place) ≡ Ok (at (counted 1 (record symbols { shape = shape }) shape) places.Behind)
 unfolding step
 symbol-read symbol symbols place shape is between e f = ap (λ b. step b (at symbols place)) is.0 ∙ go place between
@@ -116,14 +116,14 @@ symbol-read symbol symbols place shape is between e f = ap (λ b. step b (at sym
         ap (λ t. if t then Ok (at symbols (places.Count 0)) else symbol_by symbol (behind symbol symbols.shape) symbols) is.2 ∙ by
     go (places.Count count) b = absurd b
 
-opened : (symbols : Symbols) → step (to_ascii_uppercase left_parenthesis) (at symbols places.Behind) ≡ Ok (at symbols (places.Count 0))
+opened : (symbols : PictureSymbols) → step (to_ascii_uppercase left_parenthesis) (at symbols places.Behind) ≡ Ok (at symbols (places.Count 0))
 unfolding step
 opened symbols = refl
 
 not-zero : (n : ℕ) → 1 ≤ n → (n == 0) ≡ false
 not-zero n h = grind (arith, nat_tests)
 
-closed-by : (symbols : Symbols) (count : ℕ) → 1 ≤ count → Fits (count - 1) symbols → step (to_ascii_uppercase right_parenthesis) (at symbols (places.Count count)) ≡ Ok (at (counted (count - 1) symbols symbols.shape) places.Open)
+closed-by : (symbols : PictureSymbols) (count : ℕ) → 1 ≤ count → Fits (count - 1) symbols → step (to_ascii_uppercase right_parenthesis) (at symbols (places.Count count)) ≡ Ok (at (counted (count - 1) symbols symbols.shape) places.Open)
 unfolding step
 closed-by symbols count some f =
     ap (λ t. if t then Err flaws.Order else placed places.Open (added (count - 1) symbols)) (not-zero count some) ∙ ap (placed places.Open) (fits (count - 1) symbols f)
@@ -132,13 +132,13 @@ closed-by symbols count some f =
 abbrev run_place : ℕ → SymbolPosition
 run_place count = if count == 1 then places.Behind else places.Open
 
-counted-on : (symbols : Symbols) (count : ℕ) → 1 ≤ count → counted (count - 1) (counted 1 symbols symbols.shape) symbols.shape ≡ counted count symbols symbols.shape
+counted-on : (symbols : PictureSymbols) (count : ℕ) → 1 ≤ count → counted (count - 1) (counted 1 symbols symbols.shape) symbols.shape ≡ counted count symbols symbols.shape
 counted-on symbols count h = go symbols.shape
   where
     left : (a : ℕ) → a + 1 + (count - 1) ≡ a + count
     left a = omega (arith, h)
 
-    go : (shape : Shape) → counted (count - 1) (counted 1 symbols shape) shape ≡ counted count symbols shape
+    go : (shape : PictureShape) → counted (count - 1) (counted 1 symbols shape) shape ≡ counted count symbols shape
     go (shapes.Point signed) = ap (λ n. record symbols { part = n }) (left symbols.part)
     go shapes.Start = ap (λ n. record symbols { whole = n }) (left symbols.whole)
     go shapes.Nines = ap (λ n. record symbols { whole = n }) (left symbols.whole)
@@ -147,10 +147,10 @@ counted-on symbols count h = go symbols.shape
     go shapes.Any = ap (λ n. record symbols { whole = n }) (left symbols.whole)
 
 -- how many there are behind one more
-one-more : (symbols : Symbols) → (counted 1 symbols symbols.shape).whole + (counted 1 symbols symbols.shape).part ≡ symbols.whole + symbols.part + 1
+one-more : (symbols : PictureSymbols) → (counted 1 symbols symbols.shape).whole + (counted 1 symbols symbols.shape).part ≡ symbols.whole + symbols.part + 1
 one-more symbols = go symbols.shape
   where
-    go : (shape : Shape) → (counted 1 symbols shape).whole + (counted 1 symbols shape).part ≡ symbols.whole + symbols.part + 1
+    go : (shape : PictureShape) → (counted 1 symbols shape).whole + (counted 1 symbols shape).part ≡ symbols.whole + symbols.part + 1
     go (shapes.Point signed) = omega arith
     go shapes.Start = omega arith
     go shapes.Nines = omega arith
@@ -158,7 +158,7 @@ one-more symbols = go symbols.shape
     go shapes.Letters = omega arith
     go shapes.Any = omega arith
 
-same-shape : (count : ℕ) (symbols : Symbols) (shape : Shape) → (counted count symbols shape).shape ≡ symbols.shape
+same-shape : (count : ℕ) (symbols : PictureSymbols) (shape : PictureShape) → (counted count symbols shape).shape ≡ symbols.shape
 same-shape count symbols (shapes.Point signed) = refl
 same-shape count symbols shapes.Start = refl
 same-shape count symbols shapes.Nines = refl
@@ -167,19 +167,19 @@ same-shape count symbols shapes.Letters = refl
 same-shape count symbols shapes.Any = refl
 
 -- behind a symbol of this shape
-abbrev shaped : Symbols → Shape → Symbols
+abbrev shaped : PictureSymbols → PictureShape → PictureSymbols
 shaped symbols shape = record symbols { shape = shape }
 
-abbrev once : Symbols → Shape → Symbols
+abbrev once : PictureSymbols → PictureShape → PictureSymbols
 once symbols shape = counted 1 (shaped symbols shape) shape
 
-run-behind : (count : ℕ) (symbols : Symbols) (shape : Shape) → 1 ≤ count → Fits count (shaped symbols shape) → Fits (count - 1) (once symbols shape)
+run-behind : (count : ℕ) (symbols : PictureSymbols) (shape : PictureShape) → 1 ≤ count → Fits count (shaped symbols shape) → Fits (count - 1) (once symbols shape)
 run-behind count symbols shape some f =
     let more = one-more (shaped symbols shape) in
     let kept : most (once symbols shape).shape ≡ most shape = ap most (same-shape 1 (shaped symbols shape) shape) in
     omega (arith, f, some, more, kept)
 
-run-counted : (count : ℕ) (symbols : Symbols) (shape : Shape) → 1 ≤ count →
+run-counted : (count : ℕ) (symbols : PictureSymbols) (shape : PictureShape) → 1 ≤ count →
     at (counted (count - 1) (once symbols shape) (once symbols shape).shape) places.Open ≡ at (counted count (shaped symbols shape) shape) places.Open
 run-counted count symbols shape some =
     ap (λ s. at (counted (count - 1) (once symbols shape) s) places.Open) (same-shape 1 (shaped symbols shape) shape)
@@ -188,7 +188,7 @@ run-counted count symbols shape some =
 is-one : (count : ℕ) → (count == 1) ≡ true → 1 ≡ count
 is-one count e = grind (arith, nat_tests)
 
-run : (symbol count : ℕ) (symbols : Symbols) (place : SymbolPosition) (shape : Shape) (rest : List ℕ) (picture : Picture) → IsCounted symbol → IsBetween place → behind symbol symbols.shape ≡ Some shape →
+run : (symbol count : ℕ) (symbols : PictureSymbols) (place : SymbolPosition) (shape : PictureShape) (rest : List ℕ) (picture : Picture) → IsCounted symbol → IsBetween place → behind symbol symbols.shape ≡ Some shape →
     1 ≤ count → count ≤ 65535 → Fits count (shaped symbols shape) → Gives (at (counted count (shaped symbols shape) shape) (run_place count)) rest picture →
     Gives (at symbols place) (run_text symbol count ++ rest) picture
 run symbol count symbols place shape rest picture is between e some small f g =
@@ -208,7 +208,7 @@ run symbol count symbols place shape rest picture is between e some small f g =
 
 -- ---- the end
 
-finished : (symbols : Symbols) (place : SymbolPosition) (found : Picture) → IsBetween place → picture symbols ≡ Ok found → finish (at symbols place) ≡ Ok found
+finished : (symbols : PictureSymbols) (place : SymbolPosition) (found : Picture) → IsBetween place → picture symbols ≡ Ok found → finish (at symbols place) ≡ Ok found
 unfolding finish
 finished symbols places.Open found between e = e
 finished symbols places.Behind found between e = e
@@ -221,11 +221,11 @@ run-between count = go (count == 1)
     go true = tt
     go false = tt
 
-abbrev some_symbols : Shape → ℕ → ℕ → Symbols
+abbrev some_symbols : PictureShape → ℕ → ℕ → PictureSymbols
 some_symbols shape whole part = record { shape = shape; whole = whole; part = part }
 
 -- one run alone
-letters : (symbol count : ℕ) (shape : Shape) (found : Picture) → IsCounted symbol → behind symbol shapes.Start ≡ Some shape → 1 ≤ count → count ≤ 65535 → Fits count (some_symbols shape 0 0) →
+letters : (symbol count : ℕ) (shape : PictureShape) (found : Picture) → IsCounted symbol → behind symbol shapes.Start ≡ Some shape → 1 ≤ count → count ≤ 65535 → Fits count (some_symbols shape 0 0) →
     picture (counted count (some_symbols shape 0 0) shape) ≡ Ok found → Gives start (run_text symbol count) found
 letters symbol count shape found is e some small f done =
     subst (λ list. Gives start list found) (append-nil (run_text symbol count))
@@ -244,7 +244,7 @@ nines : IsCounted 57
 nines = (refl, refl, refl)
 
 -- V
-point-read : (signed : Bool) (shape : Shape) (whole : ℕ) (place : SymbolPosition) → IsBetween place → behind 86 shape ≡ Some (shapes.Point signed) → whole ≤ 18 →
+point-read : (signed : Bool) (shape : PictureShape) (whole : ℕ) (place : SymbolPosition) → IsBetween place → behind 86 shape ≡ Some (shapes.Point signed) → whole ≤ 18 →
     step (to_ascii_uppercase 86) (at (some_symbols shape whole 0) place) ≡ Ok (at (some_symbols (shapes.Point signed) whole 0) places.Open)
 unfolding step
 point-read signed shape whole place between e few = go place between
@@ -259,11 +259,11 @@ point-read signed shape whole place between e few = go place between
     go places.Behind b = by
     go (places.Count count) b = absurd b
 
-part-read : (signed : Bool) (shape : Shape) (whole part : ℕ) (place : SymbolPosition) → IsBetween place → behind 86 shape ≡ Some (shapes.Point signed) → 1 ≤ part → whole + part ≤ 18 →
+part-read : (signed : Bool) (shape : PictureShape) (whole part : ℕ) (place : SymbolPosition) → IsBetween place → behind 86 shape ≡ Some (shapes.Point signed) → 1 ≤ part → whole + part ≤ 18 →
     Gives (at (some_symbols shape whole 0) place) (86 ∷ run_text 57 part) (pictures.Number signed whole part)
 part-read signed shape whole part place between e some few =
     let none : 0 + part ≡ part = omega arith in
-    let symbols : Symbols = some_symbols (shapes.Point signed) whole 0 in
+    let symbols : PictureSymbols = some_symbols (shapes.Point signed) whole 0 in
     let found : Picture = pictures.Number signed whole part in
     byte-on 86 (at (some_symbols shape whole 0) place) (at symbols places.Open) (run_text 57 part) found (point-read signed shape whole place between e (omega (arith, few)))
     (subst (λ list. Gives (at symbols places.Open) list found) (append-nil (run_text 57 part))
@@ -272,7 +272,7 @@ part-read signed shape whole part place between e some few =
     (finished (counted part symbols (shapes.Point signed)) (run_place part) found (run-between part)
     (ap (number signed whole) none ∙ number-made signed whole part (omega (arith, some)) few)))))
 
-part-text-read : (signed : Bool) (shape : Shape) (whole part : ℕ) (place : SymbolPosition) → IsBetween place → behind 86 shape ≡ Some (shapes.Point signed) → picture_by shape (some_symbols shape whole 0) ≡ number signed whole 0 →
+part-text-read : (signed : Bool) (shape : PictureShape) (whole part : ℕ) (place : SymbolPosition) → IsBetween place → behind 86 shape ≡ Some (shapes.Point signed) → picture_by shape (some_symbols shape whole 0) ≡ number signed whole 0 →
     1 ≤ whole + part → whole + part ≤ 18 → Gives (at (some_symbols shape whole 0) place) (part_text part) (pictures.Number signed whole part)
 part-text-read signed shape whole part place between e alone some few = go (part == 0) refl
   where
@@ -284,10 +284,10 @@ part-text-read signed shape whole part place between e alone some few = go (part
     go false is = part-read signed shape whole part place between e (grind (arith, nat_tests)) few
 
 -- before and behind the nines
-abbrev first_shape : Bool → Shape
+abbrev first_shape : Bool → PictureShape
 first_shape signed = if signed then shapes.Signed else shapes.Start
 
-abbrev nines_shape : Bool → Shape
+abbrev nines_shape : Bool → PictureShape
 nines_shape signed = if signed then shapes.Signed else shapes.Nines
 
 whole-read : (signed : Bool) (whole part : ℕ) → 1 ≤ whole → whole + part ≤ 18 → Gives (at (some_symbols (first_shape signed) 0 0) places.Open) (run_text 57 whole ++ part_text part) (pictures.Number signed whole part)

@@ -12,10 +12,10 @@ use Rattle.picture_data.specs.declared.fault.Flaw.{Flaw}
 use Rattle.picture_data.specs.declared.fault.Flaw.TheVariants as flaws
 use Rattle.picture_data.specs.declared.reading.SymbolPosition.{SymbolPosition}
 use Rattle.picture_data.specs.declared.reading.SymbolPosition.TheVariants as places
-use Rattle.picture_data.specs.declared.reading.Reading.{Reading}
-use Rattle.picture_data.specs.declared.symbols.Shape.{Shape}
-use Rattle.picture_data.specs.declared.symbols.Shape.TheVariants as shapes
-use Rattle.picture_data.specs.declared.symbols.Symbols.{Symbols}
+use Rattle.picture_data.specs.declared.reading.PictureReading.{PictureReading}
+use Rattle.picture_data.specs.declared.symbols.PictureShape.{PictureShape}
+use Rattle.picture_data.specs.declared.symbols.PictureShape.TheVariants as shapes
+use Rattle.picture_data.specs.declared.symbols.PictureSymbols.{PictureSymbols}
 use Rattle.picture_data.specs.Reading.{start, placed, symbol_by, symbol, kept, digit, closed, in_count, flaw_of, step_by, step, finish_by, finish, ended, read_from, plain_picture, picture_of}
 use Rattle.picture_data.specs.Edited.{first_plain, is_edited, edited_picture, edited_by, picture_by as mask_picture}
 use Rattle.edit_fields.specs.declared.fault.MaskFault.{MaskFault}
@@ -36,7 +36,7 @@ use Rattle.round_trip.specs.printable.Whole.{is_capital, is_printable_mask, is_p
 
 -- ---- what holds of the symbols so far
 
-abbrev pub is_lettered : Shape → Bool
+abbrev pub is_lettered : PictureShape → Bool
 is_lettered shapes.Letters = true
 is_lettered shapes.Any = true
 is_lettered shapes.Start = false
@@ -45,22 +45,22 @@ is_lettered shapes.Signed = false
 is_lettered (shapes.Point signed) = false
 
 -- no more than a picture can have, and a letter has been read where there is one
-pub record Fine (symbols : Symbols) : Type 0 where
+pub record Fine (symbols : PictureSymbols) : Type 0 where
   pub few : symbols.whole ≤ 65535
   pub some : is_lettered symbols.shape ≡ true → 1 ≤ symbols.whole
 
-abbrev SymbolsFine : Result Symbols Flaw → Type 0
+abbrev SymbolsFine : Result PictureSymbols Flaw → Type 0
 SymbolsFine (Ok symbols) = Fine symbols
 SymbolsFine (Err flaw) = Unit {0}
 
-abbrev pub ReadingFine : Result Reading Flaw → Type 0
+abbrev pub ReadingFine : Result PictureReading Flaw → Type 0
 ReadingFine (Ok reading) = Fine reading.symbols
 ReadingFine (Err flaw) = Unit {0}
 
 apart : {A : Type 0} → false ≡ true → A
 apart e = absurd cc
 
-most-few : (shape : Shape) → most shape ≤ 65535
+most-few : (shape : PictureShape) → most shape ≤ 65535
 most-few shapes.Start = omega arith
 most-few shapes.Nines = omega arith
 most-few shapes.Signed = omega arith
@@ -68,7 +68,7 @@ most-few (shapes.Point signed) = omega arith
 most-few shapes.Letters = omega arith
 most-few shapes.Any = omega arith
 
-counted-fine : (count : ℕ) (symbols : Symbols) (shape : Shape) → symbols.shape ≡ shape → symbols.whole + symbols.part + count ≤ 65535 →
+counted-fine : (count : ℕ) (symbols : PictureSymbols) (shape : PictureShape) → symbols.shape ≡ shape → symbols.whole + symbols.part + count ≤ 65535 →
     (is_lettered symbols.shape ≡ true → 1 ≤ symbols.whole + count) → Fine (counted count symbols shape)
 counted-fine count symbols (shapes.Point signed) is few some =
     record { few = omega (arith, few); some = λ e. apart (sym (ap is_lettered is) ∙ e) }
@@ -78,7 +78,7 @@ counted-fine count symbols shapes.Signed is few some = record { few = omega (ari
 counted-fine count symbols shapes.Letters is few some = record { few = omega (arith, few); some = some }
 counted-fine count symbols shapes.Any is few some = record { few = omega (arith, few); some = some }
 
-added-fine : (count : ℕ) (symbols : Symbols) → (is_lettered symbols.shape ≡ true → 1 ≤ symbols.whole + count) → SymbolsFine (added count symbols)
+added-fine : (count : ℕ) (symbols : PictureSymbols) → (is_lettered symbols.shape ≡ true → 1 ≤ symbols.whole + count) → SymbolsFine (added count symbols)
 added-fine count symbols some = go (nat_le (symbols.whole + symbols.part + count) (most symbols.shape)) refl
   where
     go : (v : Bool) → nat_le (symbols.whole + symbols.part + count) (most symbols.shape) ≡ v →
@@ -89,14 +89,14 @@ added-fine count symbols some = go (nat_le (symbols.whole + symbols.part + count
         counted-fine count symbols symbols.shape refl (omega (arith, few, most_few)) some
     go false e = tt
 
-placed-fine : (place : SymbolPosition) (found : Result Symbols Flaw) → SymbolsFine found → ReadingFine (placed place found)
+placed-fine : (place : SymbolPosition) (found : Result PictureSymbols Flaw) → SymbolsFine found → ReadingFine (placed place found)
 placed-fine place (Ok symbols) h = h
 placed-fine place (Err flaw) h = tt
 
 -- ---- one symbol
 
 -- S and V are no letters of a text
-signed-shape : (shape next : Shape) → behind_sign shape ≡ Some next → is_lettered next ≡ false
+signed-shape : (shape next : PictureShape) → behind_sign shape ≡ Some next → is_lettered next ≡ false
 signed-shape shapes.Start next e = sym (ap is_lettered (some_is e))
   where
     some_is : Some shapes.Signed ≡ Some next → shapes.Signed ≡ next
@@ -107,13 +107,13 @@ signed-shape (shapes.Point signed) next e = absurd cc
 signed-shape shapes.Letters next e = absurd cc
 signed-shape shapes.Any next e = absurd cc
 
-point-is : (signed : Bool) (next : Shape) → Some (shapes.Point signed) ≡ Some next → is_lettered next ≡ false
+point-is : (signed : Bool) (next : PictureShape) → Some (shapes.Point signed) ≡ Some next → is_lettered next ≡ false
 point-is signed next e = sym (ap is_lettered (some_is e))
   where
     some_is : Some (shapes.Point signed) ≡ Some next → shapes.Point signed ≡ next
     some_is e = cc
 
-pointed-shape : (shape next : Shape) → behind_point shape ≡ Some next → is_lettered next ≡ false
+pointed-shape : (shape next : PictureShape) → behind_point shape ≡ Some next → is_lettered next ≡ false
 pointed-shape shapes.Start next e = point-is false next e
 pointed-shape shapes.Nines next e = point-is false next e
 pointed-shape shapes.Signed next e = point-is true next e
@@ -121,20 +121,20 @@ pointed-shape (shapes.Point signed) next e = absurd cc
 pointed-shape shapes.Letters next e = absurd cc
 pointed-shape shapes.Any next e = absurd cc
 
-no-letter : (byte : ℕ) (shape next : Shape) → (byte == symbol_s || byte == symbol_v) ≡ true → behind byte shape ≡ Some next → is_lettered next ≡ false
+no-letter : (byte : ℕ) (shape next : PictureShape) → (byte == symbol_s || byte == symbol_v) ≡ true → behind byte shape ≡ Some next → is_lettered next ≡ false
 no-letter byte shape next h e = go others (byte == symbol_s) (byte == symbol_v) h e
   where
-    others : Option Shape
+    others : Option PictureShape
     others =
         if byte == symbol_9 then Some (behind_nine shape) else if byte == symbol_a then behind_letter shape
         else if byte == symbol_x then behind_any shape else None
 
-    go : (others : Option Shape) (s v : Bool) → (s || v) ≡ true → (if s then behind_sign shape else if v then behind_point shape else others) ≡ Some next → is_lettered next ≡ false
+    go : (others : Option PictureShape) (s v : Bool) → (s || v) ≡ true → (if s then behind_sign shape else if v then behind_point shape else others) ≡ Some next → is_lettered next ≡ false
     go others true v h e = signed-shape shape next e
     go others false true h e = pointed-shape shape next e
     go others false false h e = apart h
 
-symbol-fine : (byte : ℕ) (next : Option Shape) (symbols : Symbols) → behind byte symbols.shape ≡ next → Fine symbols → ReadingFine (symbol_by byte next symbols)
+symbol-fine : (byte : ℕ) (next : Option PictureShape) (symbols : PictureSymbols) → behind byte symbols.shape ≡ next → Fine symbols → ReadingFine (symbol_by byte next symbols)
 symbol-fine byte None symbols is h = tt
 symbol-fine byte (Some shape) symbols is h = go (byte == symbol_s || byte == symbol_v) refl
   where
@@ -147,7 +147,7 @@ symbol-fine byte (Some shape) symbols is h = go (byte == symbol_s || byte == sym
 
 -- ---- a count
 
-kept-fine : (place : SymbolPosition) (symbols : Symbols) (found : Result Symbols Flaw) → Fine symbols → ReadingFine (kept place symbols found)
+kept-fine : (place : SymbolPosition) (symbols : PictureSymbols) (found : Result PictureSymbols Flaw) → Fine symbols → ReadingFine (kept place symbols found)
 kept-fine place symbols (Ok more) h = h
 kept-fine place symbols (Err flaw) h = tt
 
@@ -155,24 +155,24 @@ either : {R : Type 0} (P : R → Type 0) (v : Bool) (x y : R) → P x → P y �
 either P true x y h k = h
 either P false x y h k = k
 
-closed-fine : (count : ℕ) (reading : Reading) → Fine reading.symbols → ReadingFine (closed count reading)
+closed-fine : (count : ℕ) (reading : PictureReading) → Fine reading.symbols → ReadingFine (closed count reading)
 closed-fine count reading h =
     either ReadingFine (count == 0) (Err flaws.Order) (placed places.Open (added (count - 1) reading.symbols)) tt
     (placed-fine places.Open (added (count - 1) reading.symbols) (added-fine (count - 1) reading.symbols (λ l. let some = h.some l in omega (arith, some))))
 
-digit-fine : (count d : ℕ) (reading : Reading) → Fine reading.symbols → ReadingFine (digit count d reading)
+digit-fine : (count d : ℕ) (reading : PictureReading) → Fine reading.symbols → ReadingFine (digit count d reading)
 digit-fine count d reading h =
     either ReadingFine (nat_le (count * 10 + d) 65535)
     (kept (places.Count (count * 10 + d)) reading.symbols (added (count * 10 + d - 1) reading.symbols)) (Err (too_many reading.symbols.shape))
     (kept-fine (places.Count (count * 10 + d)) reading.symbols (added (count * 10 + d - 1) reading.symbols) h) tt
 
-count-fine : (count byte : ℕ) (reading : Reading) → Fine reading.symbols → ReadingFine (in_count count byte reading)
+count-fine : (count byte : ℕ) (reading : PictureReading) → Fine reading.symbols → ReadingFine (in_count count byte reading)
 count-fine count byte reading h =
     either ReadingFine (nat_le digit_0 byte && nat_le byte digit_9) (digit count (byte - digit_0) reading)
     (if byte == right_parenthesis then closed count reading else Err (flaw_of byte)) (digit-fine count (byte - digit_0) reading h)
     (either ReadingFine (byte == right_parenthesis) (closed count reading) (Err (flaw_of byte)) (closed-fine count reading h) tt)
 
-step-fine : (place : SymbolPosition) (byte : ℕ) (reading : Reading) → Fine reading.symbols → ReadingFine (step_by place byte reading)
+step-fine : (place : SymbolPosition) (byte : ℕ) (reading : PictureReading) → Fine reading.symbols → ReadingFine (step_by place byte reading)
 step-fine places.Open byte reading h = symbol-fine byte (behind byte reading.symbols.shape) reading.symbols refl h
 step-fine places.Behind byte reading h =
     either ReadingFine (byte == left_parenthesis) (Ok (record reading { place = places.Count 0 })) (symbol byte reading) h
@@ -196,7 +196,7 @@ number-printable count signed whole part = go (whole + part == 0) (nat_le (whole
     go false true z e = both (not-zero (whole + part) z) e
     go false false z e = refl
 
-picture-printable : (count : ℕ) (shape : Shape) (symbols : Symbols) → symbols.shape ≡ shape → Fine symbols → Printable count (picture_by shape symbols)
+picture-printable : (count : ℕ) (shape : PictureShape) (symbols : PictureSymbols) → symbols.shape ≡ shape → Fine symbols → Printable count (picture_by shape symbols)
 picture-printable count shapes.Start symbols is h = refl
 picture-printable count shapes.Nines symbols is h = number-printable count false symbols.whole 0
 picture-printable count shapes.Signed symbols is h = number-printable count true symbols.whole 0
@@ -204,20 +204,20 @@ picture-printable count (shapes.Point signed) symbols is h = number-printable co
 picture-printable count shapes.Letters symbols is h = both (le-leb 1 symbols.whole (h.some (ap is_lettered is))) (le-leb symbols.whole 65535 h.few)
 picture-printable count shapes.Any symbols is h = both (le-leb 1 symbols.whole (h.some (ap is_lettered is))) (le-leb symbols.whole 65535 h.few)
 
-finish-printable : (count : ℕ) (place : SymbolPosition) (symbols : Symbols) → Fine symbols → Printable count (finish_by place symbols)
+finish-printable : (count : ℕ) (place : SymbolPosition) (symbols : PictureSymbols) → Fine symbols → Printable count (finish_by place symbols)
 finish-printable count (places.Count n) symbols h = refl
 finish-printable count places.Open symbols h = picture-printable count symbols.shape symbols refl h
 finish-printable count places.Behind symbols h = picture-printable count symbols.shape symbols refl h
 
-finished : (count : ℕ) (reading : Reading) → Fine reading.symbols → Printable count (finish reading)
+finished : (count : ℕ) (reading : PictureReading) → Fine reading.symbols → Printable count (finish reading)
 unfolding finish
 finished count reading h = finish-printable count reading.place reading.symbols h
 
-stepped : (byte : ℕ) (reading : Reading) → Fine reading.symbols → ReadingFine (step byte reading)
+stepped : (byte : ℕ) (reading : PictureReading) → Fine reading.symbols → ReadingFine (step byte reading)
 unfolding step
 stepped byte reading h = step-fine reading.place byte reading h
 
-read-printable : (count : ℕ) (reading : Result Reading Flaw) (text : List ℕ) → ReadingFine reading →
+read-printable : (count : ℕ) (reading : Result PictureReading Flaw) (text : List ℕ) → ReadingFine reading →
     if_any is_printable_picture (picture_if (read_from count reading text)) ≡ true
 unfolding read_from
 read-printable count (Err flaw) text h = refl

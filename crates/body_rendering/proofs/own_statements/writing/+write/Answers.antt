@@ -3,6 +3,7 @@ use Rattle.std.proofs.lemmas.Grind.{common_steps}
 use Rattle.std.proofs.lemmas.List.{map-set, length-map}
 use Rattle.std.proofs.Math.ListN.{get_or-map}
 use Rattle.cob_tree.specs.declared.stmt.Stmt.TheVariants.{Arith, Loop, Read}
+use Rattle.cob_tree.specs.Parts.{AreParts}
 use Rattle.control_flow_theory.specs.language.Control.{Branch, seen, seen_when, seen_stmts, stmts_of}
 use Rattle.control_flow_theory.specs.language.Language as language
 use Rattle.statement_builders.specs.arms.Choosing.{IsArith, IsEvaluate, IsOwnLoop, IsRead}
@@ -106,7 +107,7 @@ write_stmt-returns-in-If t c =
     let met = ok_holds c.write_stmts-yes.result (AreWritten places yes) pair.first c.write_stmts-yes.ensures both.0 in
     let unmet = ok_holds c.write_stmts-no.result (AreWritten places no) pair.second c.write_stmts-no.ensures both.1 in
     if_row way c.in-If.cond yes pair.first no pair.second made h.2.0 (met way placed) (unmet way placed) h.2.1
-    ∙ ap (λ s. written way (seen 0 s)) (sym c.in-If.is))
+    ∙ ap (λ s. written way (seen 0 s)) (sym (subst (AreParts c.args.stmt) c.in-If.is c.into_parts.ensures)))
     c.own_if.ensures
 
 pub write_stmt-returns-in-Evaluate : goal.write_stmt-returns-in-Evaluate
@@ -122,5 +123,5 @@ write_stmt-returns-in-Evaluate t c =
     let o = ok_holds c.write_arm-other.result (IsArmWritten places other) both.other c.write_arm-other.ensures parts.1 in
     let is = subst (λ had. IsEvaluate c.in-Evaluate.subject both.whens had (seen_stmts 0 both.other) made) c.is_some-has_other.ensures h.2.1 in
     evaluate_row way c.in-Evaluate.subject whens both.whens other both.other made h.2.0 (w way placed) (o way placed) is
-    ∙ ap (λ s. written way (seen 0 s)) (sym c.in-Evaluate.is))
+    ∙ ap (λ s. written way (seen 0 s)) (sym (subst (AreParts c.args.stmt) c.in-Evaluate.is c.into_parts.ensures)))
     c.own_evaluate.ensures

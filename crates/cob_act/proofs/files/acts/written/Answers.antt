@@ -9,7 +9,7 @@ use Rattle.cob_act.proofs.files_lemmas.EffectLemmas.{put_did, tried_at}
 use Rattle.cob_act.specs.declared.files.work.FileVerb.TheVariants as verbs
 use Rattle.cob_act.proofs.files_lemmas.WorkLemmas.{done_of, put_kept, put_moved, written_moves}
 use Rattle.std.proofs.lemmas.Result.{err_from_is_err_and}
-use Rattle.cob_act.specs.declared.files.fault.FileFault.TheVariants as faults
+use Rattle.file_model.specs.declared.operations.fault.FileFault.TheVariants as faults
 use Rattle.cob_act.proofs.files_lemmas.BenchLemmas.{wanted_memory}
 use Rattle.cob_act.proofs.files_lemmas.DeskLemmas.{over_left, stays_listed}
 use Rattle.cob_act.proofs.files_lemmas.ReadLemmas.{nothing_done}

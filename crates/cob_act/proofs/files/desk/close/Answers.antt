@@ -7,20 +7,20 @@ use Rattle.cob_act.proofs.files.desk.close.Goals as goal
 
 pub returns-clause-bench : goal.returns-clause-bench
 returns-clause-bench g c =
-    done_over c.args.files.now c.args.file c.status_of.result c.close-tried.result _ _ _ _ c.args.table.now.rows c.close-tried.new.table.rows (c.if-not-has_row.ensures.file refl) c.status_of.ensures c.close-tried.ensures.bench c.close-tried.ensures.notes
+    done_over c.args.files.now c.args.file c.close.result _ _ _ _ c.args.table.now.rows c.close.new.table.rows (c.if-not-has_row.ensures.file refl) c.close.ensures.bench c.close.ensures.notes
 
 pub returns-clause-breaks : goal.returns-clause-breaks
 returns-clause-breaks g c = λ world.
-    stays_over c.args.files.now c.args.file c.status_of.result c.close-tried.result _ _ _ _ c.args.table.now.rows c.close-tried.new.table.rows world (λ (address : Address). closed_at world c.args.file) (c.if-not-has_row.ensures.file refl) c.status_of.ensures c.close-tried.ensures.bench c.close-tried.ensures.notes
-    (λ address here stands told. c.close-tried.ensures.world world address here stands)
+    stays_over c.args.files.now c.args.file c.close.result _ _ _ _ c.args.table.now.rows c.close.new.table.rows world (λ (address : Address). closed_at world c.args.file) (c.if-not-has_row.ensures.file refl) c.close.ensures.bench c.close.ensures.notes
+    (λ address here stands told. c.close.ensures.world world address here stands)
 
 pub returns-then-not-has_row-clause-bench : goal.returns-then-not-has_row-clause-bench
 returns-then-not-has_row-clause-bench g c = none_asked c.args.files.now c.args.bench.now.left _
 
 pub returns-clause-does : goal.returns-clause-does
 returns-clause-does g c = λ world.
-    tried_over c.args.files.now c.args.file c.status_of.result c.close-tried.result _ _ _ _ c.args.table.now.rows c.close-tried.new.table.rows world (λ (address : Address). closed_at world c.args.file) (c.if-not-has_row.ensures.file refl) c.status_of.ensures c.close-tried.ensures.rows c.close-tried.ensures.bench
-    (λ address here stands told. c.close-tried.ensures.world world address here stands)
+    tried_over c.args.files.now c.args.file c.close.result _ _ _ _ c.args.table.now.rows c.close.new.table.rows world (λ (address : Address). closed_at world c.args.file) (c.if-not-has_row.ensures.file refl) c.close.ensures.rows c.close.ensures.bench
+    (λ address here stands told. c.close.ensures.world world address here stands)
 
 pub returns-then-not-has_row-clause-does : goal.returns-then-not-has_row-clause-does
 returns-then-not-has_row-clause-does g c = λ world over.

@@ -7,20 +7,20 @@ use Rattle.cob_act.proofs.files.desk.open.Goals as goal
 
 pub returns-clause-bench : goal.returns-clause-bench
 returns-clause-bench g c =
-    done_over c.args.files.now c.args.opening.file c.status_of.result c.open-tried.result _ _ _ _ c.args.table.now.rows c.open-tried.new.table.rows (c.if-not-has_row.ensures.file refl) c.status_of.ensures c.open-tried.ensures.bench c.open-tried.ensures.notes
+    done_over c.args.files.now c.args.opening.file c.open.result _ _ _ _ c.args.table.now.rows c.open.new.table.rows (c.if-not-has_row.ensures.file refl) c.open.ensures.bench c.open.ensures.notes
 
 pub returns-clause-breaks : goal.returns-clause-breaks
 returns-clause-breaks g c = λ world.
-    stays_over c.args.files.now c.args.opening.file c.status_of.result c.open-tried.result _ _ _ _ c.args.table.now.rows c.open-tried.new.table.rows world (λ (address : Address). opened_at world (addresses_of c.args.files.now) c.args.opening.file address c.args.opening.how) (c.if-not-has_row.ensures.file refl) c.status_of.ensures c.open-tried.ensures.bench c.open-tried.ensures.notes
-    (c.open-tried.ensures.world world)
+    stays_over c.args.files.now c.args.opening.file c.open.result _ _ _ _ c.args.table.now.rows c.open.new.table.rows world (λ (address : Address). opened_at world (addresses_of c.args.files.now) c.args.opening.file address c.args.opening.how) (c.if-not-has_row.ensures.file refl) c.open.ensures.bench c.open.ensures.notes
+    (c.open.ensures.world world)
 
 pub returns-then-not-has_row-clause-bench : goal.returns-then-not-has_row-clause-bench
 returns-then-not-has_row-clause-bench g c = none_asked c.args.files.now c.args.bench.now.left _
 
 pub returns-clause-does : goal.returns-clause-does
 returns-clause-does g c = λ world.
-    tried_over c.args.files.now c.args.opening.file c.status_of.result c.open-tried.result _ _ _ _ c.args.table.now.rows c.open-tried.new.table.rows world (λ (address : Address). opened_at world (addresses_of c.args.files.now) c.args.opening.file address c.args.opening.how) (c.if-not-has_row.ensures.file refl) c.status_of.ensures c.open-tried.ensures.rows c.open-tried.ensures.bench
-    (c.open-tried.ensures.world world)
+    tried_over c.args.files.now c.args.opening.file c.open.result _ _ _ _ c.args.table.now.rows c.open.new.table.rows world (λ (address : Address). opened_at world (addresses_of c.args.files.now) c.args.opening.file address c.args.opening.how) (c.if-not-has_row.ensures.file refl) c.open.ensures.rows c.open.ensures.bench
+    (c.open.ensures.world world)
 
 pub returns-then-not-has_row-clause-does : goal.returns-then-not-has_row-clause-does
 returns-then-not-has_row-clause-does g c = λ world over.

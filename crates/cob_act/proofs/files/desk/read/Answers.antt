@@ -7,25 +7,25 @@ use Rattle.cob_act.proofs.files.desk.read.Goals as goal
 
 pub returns-clause-bench : goal.returns-clause-bench
 returns-clause-bench g c =
-    done_over c.args.files.now c.args.file c.status_of.result c.read-tried.result _ _ _ _ c.args.table.now.rows c.read-tried.new.table.rows (c.if-not-has_row.ensures.file refl) c.status_of.ensures c.read-tried.ensures.bench c.read-tried.ensures.notes
+    done_over c.args.files.now c.args.file c.read.result _ _ _ _ c.args.table.now.rows c.read.new.table.rows (c.if-not-has_row.ensures.file refl) c.read.ensures.bench c.read.ensures.notes
 
 pub returns-clause-breaks : goal.returns-clause-breaks
 returns-clause-breaks g c = λ world.
-    stays_over c.args.files.now c.args.file c.status_of.result c.read-tried.result _ _ _ _ c.args.table.now.rows c.read-tried.new.table.rows world (λ (address : Address). read_at world c.args.file address (length c.args.into.now)) (c.if-not-has_row.ensures.file refl) c.status_of.ensures c.read-tried.ensures.bench c.read-tried.ensures.notes
-    (c.read-tried.ensures.world world)
+    stays_over c.args.files.now c.args.file c.read.result _ _ _ _ c.args.table.now.rows c.read.new.table.rows world (λ (address : Address). read_at world c.args.file address (length c.args.into.now)) (c.if-not-has_row.ensures.file refl) c.read.ensures.bench c.read.ensures.notes
+    (c.read.ensures.world world)
 
 pub returns-then-not-has_row-clause-bench : goal.returns-then-not-has_row-clause-bench
 returns-then-not-has_row-clause-bench g c = none_asked c.args.files.now c.args.bench.now.left _
 
 pub returns-clause-does : goal.returns-clause-does
 returns-clause-does g c = λ world.
-    tried_over c.args.files.now c.args.file c.status_of.result c.read-tried.result _ _ _ _ c.args.table.now.rows c.read-tried.new.table.rows world (λ (address : Address). read_at world c.args.file address (length c.args.into.now)) (c.if-not-has_row.ensures.file refl) c.status_of.ensures c.read-tried.ensures.rows c.read-tried.ensures.bench
-    (c.read-tried.ensures.world world)
+    tried_over c.args.files.now c.args.file c.read.result _ _ _ _ c.args.table.now.rows c.read.new.table.rows world (λ (address : Address). read_at world c.args.file address (length c.args.into.now)) (c.if-not-has_row.ensures.file refl) c.read.ensures.rows c.read.ensures.bench
+    (c.read.ensures.world world)
 
 pub returns-clause-record : goal.returns-clause-record
 returns-clause-record g c = λ world.
-    record_came c.args.files.now c.args.file c.status_of.result c.read-tried.result _ _ c.args.table.now.rows world c.read-tried.new.into (λ (address : Address). read_at world c.args.file address (length c.args.into.now)) (c.if-not-has_row.ensures.file refl) c.status_of.ensures
-    (c.read-tried.ensures.record world)
+    record_came c.args.files.now c.args.file c.read.result _ _ c.args.table.now.rows world c.read.new.into (λ (address : Address). read_at world c.args.file address (length c.args.into.now)) (c.if-not-has_row.ensures.file refl)
+    (c.read.ensures.record world)
 
 pub returns-then-not-has_row-clause-does : goal.returns-then-not-has_row-clause-does
 returns-then-not-has_row-clause-does g c = λ world over.

@@ -7,20 +7,20 @@ use Rattle.cob_act.proofs.files.desk.rewrite.Goals as goal
 
 pub returns-clause-bench : goal.returns-clause-bench
 returns-clause-bench g c =
-    done_over c.args.files.now c.args.file c.status_of.result c.rewrite-tried.result _ _ _ _ c.args.table.now.rows c.rewrite-tried.new.table.rows (c.if-not-has_row.ensures.file refl) c.status_of.ensures c.rewrite-tried.ensures.bench c.rewrite-tried.ensures.notes
+    done_over c.args.files.now c.args.file c.rewrite.result _ _ _ _ c.args.table.now.rows c.rewrite.new.table.rows (c.if-not-has_row.ensures.file refl) c.rewrite.ensures.bench c.rewrite.ensures.notes
 
 pub returns-clause-breaks : goal.returns-clause-breaks
 returns-clause-breaks g c = λ world.
-    stays_over c.args.files.now c.args.file c.status_of.result c.rewrite-tried.result _ _ _ _ c.args.table.now.rows c.rewrite-tried.new.table.rows world (λ (address : Address). rewritten_at world c.args.file address c.args.bytes.now) (c.if-not-has_row.ensures.file refl) c.status_of.ensures c.rewrite-tried.ensures.bench c.rewrite-tried.ensures.notes
-    (λ address here stands told. c.rewrite-tried.ensures.world world address here stands)
+    stays_over c.args.files.now c.args.file c.rewrite.result _ _ _ _ c.args.table.now.rows c.rewrite.new.table.rows world (λ (address : Address). rewritten_at world c.args.file address c.args.bytes.now) (c.if-not-has_row.ensures.file refl) c.rewrite.ensures.bench c.rewrite.ensures.notes
+    (λ address here stands told. c.rewrite.ensures.world world address here stands)
 
 pub returns-then-not-has_row-clause-bench : goal.returns-then-not-has_row-clause-bench
 returns-then-not-has_row-clause-bench g c = none_asked c.args.files.now c.args.bench.now.left _
 
 pub returns-clause-does : goal.returns-clause-does
 returns-clause-does g c = λ world.
-    tried_over c.args.files.now c.args.file c.status_of.result c.rewrite-tried.result _ _ _ _ c.args.table.now.rows c.rewrite-tried.new.table.rows world (λ (address : Address). rewritten_at world c.args.file address c.args.bytes.now) (c.if-not-has_row.ensures.file refl) c.status_of.ensures c.rewrite-tried.ensures.rows c.rewrite-tried.ensures.bench
-    (λ address here stands told. c.rewrite-tried.ensures.world world address here stands)
+    tried_over c.args.files.now c.args.file c.rewrite.result _ _ _ _ c.args.table.now.rows c.rewrite.new.table.rows world (λ (address : Address). rewritten_at world c.args.file address c.args.bytes.now) (c.if-not-has_row.ensures.file refl) c.rewrite.ensures.rows c.rewrite.ensures.bench
+    (λ address here stands told. c.rewrite.ensures.world world address here stands)
 
 pub returns-then-not-has_row-clause-does : goal.returns-then-not-has_row-clause-does
 returns-then-not-has_row-clause-does g c = λ world over.

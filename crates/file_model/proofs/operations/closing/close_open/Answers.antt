@@ -1,7 +1,7 @@
-use Rattle.std.proofs.Common.{◌≡◌, ◌∙◌, ◌++◌, ◌||◌, ◌≤◌, Bool, ap, arith, length, refl, sym}
+use Rattle.std.proofs.Common.{◌≡◌, ◌∙◌, ◌++◌, ◌||◌, ◌≤◌, Bool, ap, arith, length, sym}
 use Rattle.std.proofs.lemmas.List.{length-map}
 use Rattle.file_model.specs.operations.Calls.{addresses_of}
-use Rattle.file_model.proofs.operations_lemmas.ShutLemmas.{closes_all, or_false, or_true, shuts_begun, shuts_next}
+use Rattle.file_model.proofs.operations_lemmas.ShutLemmas.{closes_all, or_false, or_true, shuts_next}
 use Rattle.file_model.proofs.operations.closing.close_open.Goals.{then-close_if_open, else-close_if_open}
 use Rattle.file_model.proofs.operations.closing.close_open.Goals as goal
 

@@ -1,4 +1,4 @@
-use Rattle.std.proofs.Common.{◌≡◌, ℕ, List, length, map, take}
+use Rattle.std.proofs.Common.{◌≡◌, ℕ, List, length, map}
 use Rattle.file_model.specs.operations.Calls.{addresses_of}
 use Rattle.file_model.specs.operations.Falling.{AreShut, LeftOf, is_used}
 use Rattle.file_model.specs.operations.Seen.{Seen}

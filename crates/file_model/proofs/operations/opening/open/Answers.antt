@@ -1,11 +1,11 @@
-use Rattle.std.proofs.Common.{◌≡◌, ◌∙◌, ◌<◌, ◌||◌, List, ℕ, Option, ap, arith, false, length, not, refl, sym, true}
+use Rattle.std.proofs.Common.{◌≡◌, ◌∙◌, ◌<◌, ◌||◌, List, ℕ, Option, ap, arith, false, length, not, refl, sym, true, Err}
 use Rattle.cob_tree.specs.declared.file.FileEntry.{FileEntry}
 use Rattle.file_model.specs.declared.device.Opened.TheVariants as opened
 use Rattle.file_model.specs.declared.mem_file.MemFile.{MemFile}
 use Rattle.file_model.specs.Attempts.{address_of, can_be_opened, opened_at}
 use Rattle.file_model.specs.Status.{may_open, opened_row, other_row}
 use Rattle.file_model.specs.Told.{Opens}
-use Rattle.file_model.specs.declared.operations.tried.Tried.TheVariants as tried
+use Rattle.file_model.specs.declared.operations.fault.FileFault.TheVariants as faults
 use Rattle.file_model.specs.operations.Calls.{addresses_of}
 use Rattle.file_model.specs.operations.Standing.{is_open_there}
 use Rattle.file_model.proofs.operations_lemmas.BenchLemmas.{found_before}
@@ -124,7 +124,7 @@ pub returns-in-NoMemory-clause-bench : goal.returns-in-NoMemory-clause-bench
 returns-in-NoMemory-clause-bench g c = λ address here.
     let there = site_of c.args.files.now c.args.table.now.rows c.args.file c.index-files-file.result c.device_of.result.now c.name_of.result.now c.requires.file c.requires.rows c.index-files-file.is
     (c.device_of.ensures ∙ ap (λ t. (address_of t).device) c.as_slice-assign.ensures ∙ ap (λ (e : FileEntry). (address_of e.assign).device) (sym c.index-files-file.is)) (c.name_of.ensures ∙ ap (λ t. (address_of t).name) c.as_slice-assign.ensures ∙ ap (λ (e : FileEntry). (address_of e.assign).name) (sym c.index-files-file.is)) in
-    wanted_bench tried.NoMemory _ _ _ _ c.in-Some.at address.device _ refl c.in-NoMemory.ensures.left (first_named c.args.files.now c.args.table.now.rows c.args.file c.device_of.result.now c.name_of.result.now there address here _ c.in-Some.at c.in-Some.ensures) c.in-NoMemory.ensures.called
+    wanted_bench (Err faults.NoMemory) _ _ _ _ c.in-Some.at address.device _ refl c.in-NoMemory.ensures.left (first_named c.args.files.now c.args.table.now.rows c.args.file c.device_of.result.now c.name_of.result.now there address here _ c.in-Some.at c.in-Some.ensures) c.in-NoMemory.ensures.called
 
 pub returns-in-NoMemory-clause-world : goal.returns-in-NoMemory-clause-world
 returns-in-NoMemory-clause-world g c = λ world address here stands told.

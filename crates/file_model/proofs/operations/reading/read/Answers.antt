@@ -1,7 +1,7 @@
-use Rattle.std.proofs.Common.{◌≡◌, ◌∙◌, ◌<◌, ◌==◌, ap, arith, if◌then◌else◌, length, refl, sym, true}
+use Rattle.std.proofs.Common.{◌≡◌, ◌∙◌, ◌<◌, ◌==◌, ap, arith, if◌then◌else◌, length, refl, sym, true, Ok, Err}
 use Rattle.file_model.specs.Attempts.{read_at}
 use Rattle.file_model.specs.Status.{may_read, other_row, read_row}
-use Rattle.file_model.specs.declared.operations.tried.Tried.TheVariants as tried
+use Rattle.file_model.specs.declared.operations.fault.FileFault.TheVariants as faults
 use Rattle.cob_tree.specs.declared.file.FileEntry.{FileEntry}
 use Rattle.file_model.specs.Attempts.{address_of}
 use Rattle.file_model.specs.operations.Calls.{addresses_of}
@@ -100,7 +100,7 @@ returns-in-Failed-clause-world g c = λ world address here stands told.
     failed_world c.fail.result _ _ _ _ _ _ c.in-Some.at address.device _ (addresses_of c.args.files.now) c.args.table.now.rows _ world (read_at world c.args.file address (length c.args.into.now)) c.fail.ensures.answer c.in-Failed.ensures.left (first_named c.args.files.now c.args.table.now.rows c.args.file c.device_of.result.now c.name_of.result.now there address here _ c.in-Some.at c.in-Some.ensures) c.in-Failed.ensures.called c.fail.ensures.bench c.fail.ensures.table stands
 
 pub returns-in-Failed-clause-record : goal.returns-in-Failed-clause-record
-returns-in-Failed-clause-record g c = λ world address here stands told none. absurd (let e : tried.Failed ≡ tried.Status 0 = sym c.fail.ensures.answer ∙ none in cc)
+returns-in-Failed-clause-record g c = λ world address here stands told none. absurd (let e : (Err faults.Device) ≡ Ok 0 = sym c.fail.ensures.answer ∙ none in cc)
 
 pub returns-then-status-ne0-clause-notes : goal.returns-then-status-ne0-clause-notes
 returns-then-status-ne0-clause-notes g c = λ address here.

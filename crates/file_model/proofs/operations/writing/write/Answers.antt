@@ -1,11 +1,11 @@
-use Rattle.std.proofs.Common.{◌∙◌, ◌<◌, List, ℕ, Option, ap, arith, length, refl, sym}
+use Rattle.std.proofs.Common.{◌∙◌, ◌<◌, List, ℕ, Option, ap, arith, length, refl, sym, Err}
 use Rattle.cob_tree.specs.declared.file.FileEntry.{FileEntry}
 use Rattle.file_model.specs.declared.device.Put.TheVariants as put
 use Rattle.file_model.specs.declared.mem_file.MemFile.{MemFile}
 use Rattle.file_model.specs.Attempts.{address_of, written_at}
 use Rattle.file_model.specs.Status.{may_write, other_row}
 use Rattle.file_model.specs.Told.{Changes, appended}
-use Rattle.file_model.specs.declared.operations.tried.Tried.TheVariants as tried
+use Rattle.file_model.specs.declared.operations.fault.FileFault.TheVariants as faults
 use Rattle.file_model.specs.operations.Calls.{addresses_of}
 use Rattle.file_model.proofs.operations_lemmas.EndLemmas.{called_named, done_bench, done_world, failed_bench, failed_notes, failed_world, first_named, noted_notes, nowhere_world, refused_bench, refused_world, site_of, wanted_bench, wanted_world, write_tried}
 use Rattle.file_model.proofs.operations_lemmas.OpLemmas.{can_write_open, writes}
@@ -62,13 +62,13 @@ pub returns-in-NoMemory-clause-bench : goal.returns-in-NoMemory-clause-bench
 returns-in-NoMemory-clause-bench g c = λ address here.
     let there = site_of c.args.files.now c.args.table.now.rows c.args.file c.index-files-file.result c.device_of.result.now c.name_of.result.now c.requires.file c.requires.rows c.index-files-file.is
     (c.device_of.ensures ∙ ap (λ t. (address_of t).device) c.as_slice-assign.ensures ∙ ap (λ (e : FileEntry). (address_of e.assign).device) (sym c.index-files-file.is)) (c.name_of.ensures ∙ ap (λ t. (address_of t).name) c.as_slice-assign.ensures ∙ ap (λ (e : FileEntry). (address_of e.assign).name) (sym c.index-files-file.is)) in
-    wanted_bench tried.NoMemory _ _ _ _ c.in-Some.at address.device _ refl c.in-NoMemory.ensures.left (first_named c.args.files.now c.args.table.now.rows c.args.file c.device_of.result.now c.name_of.result.now there address here _ c.in-Some.at c.in-Some.ensures) c.in-NoMemory.ensures.called
+    wanted_bench (Err faults.NoMemory) _ _ _ _ c.in-Some.at address.device _ refl c.in-NoMemory.ensures.left (first_named c.args.files.now c.args.table.now.rows c.args.file c.device_of.result.now c.name_of.result.now there address here _ c.in-Some.at c.in-Some.ensures) c.in-NoMemory.ensures.called
 
 pub returns-in-NoMemory-clause-world : goal.returns-in-NoMemory-clause-world
 returns-in-NoMemory-clause-world g c = λ world address here stands.
     let there = site_of c.args.files.now c.args.table.now.rows c.args.file c.index-files-file.result c.device_of.result.now c.name_of.result.now c.requires.file c.requires.rows c.index-files-file.is
     (c.device_of.ensures ∙ ap (λ t. (address_of t).device) c.as_slice-assign.ensures ∙ ap (λ (e : FileEntry). (address_of e.assign).device) (sym c.index-files-file.is)) (c.name_of.ensures ∙ ap (λ t. (address_of t).name) c.as_slice-assign.ensures ∙ ap (λ (e : FileEntry). (address_of e.assign).name) (sym c.index-files-file.is)) in
-    wanted_world tried.NoMemory _ _ c.args.bench.now.left _ c.in-Some.at address.device c.name_of.result.now (appended c.args.bytes.now) (addresses_of c.args.files.now) c.args.table.now.rows world (written_at world c.args.file address c.args.bytes.now) refl c.in-NoMemory.ensures.left (first_named c.args.files.now c.args.table.now.rows c.args.file c.device_of.result.now c.name_of.result.now there address here _ c.in-Some.at c.in-Some.ensures) c.in-NoMemory.ensures.called stands
+    wanted_world (Err faults.NoMemory) _ _ c.args.bench.now.left _ c.in-Some.at address.device c.name_of.result.now (appended c.args.bytes.now) (addresses_of c.args.files.now) c.args.table.now.rows world (written_at world c.args.file address c.args.bytes.now) refl c.in-NoMemory.ensures.left (first_named c.args.files.now c.args.table.now.rows c.args.file c.device_of.result.now c.name_of.result.now there address here _ c.in-Some.at c.in-Some.ensures) c.in-NoMemory.ensures.called stands
 
 pub returns-then-status-ne0-clause-notes : goal.returns-then-status-ne0-clause-notes
 returns-then-status-ne0-clause-notes g c = λ address here.

@@ -1,6 +1,6 @@
 use Rattle.std.proofs.Common.{map, take}
 use Rattle.file_model.specs.contracts.operations.watched.BoxDynDeviceWatched.TheImpl.{seen-value}
-use Rattle.trace_compare.specs.declared.next.Next.TheVariants as next
+use Rattle.trace_compare.specs.declared.next.Decision.TheVariants as next
 use Rattle.trace_compare.proofs.PairLemmas.{going_is, knows_budget, knows_differ, knows_same, next_is_right}
 use Rattle.trace_compare.proofs.pair.Pair.turn.Goals as goal
 

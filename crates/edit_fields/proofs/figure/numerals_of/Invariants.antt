@@ -1,0 +1,9 @@
+use Rattle.std.proofs.Common.{◌≡◌, ◌-◌, ◌++◌, length, take}
+use Rattle.edit_fields.specs.Field.{numerals}
+use Rattle.edit_fields.proofs.figure.numerals_of.Given as goal
+
+abbrev pub invariant-loop-place : goal.invariant-loop-place
+invariant-loop-place l = record {
+  same : numerals 20 l.fn.number ≡ take l.place l.numerals ++ numerals (20 - l.place) l.rest;
+  full : length l.numerals ≡ 20;
+}

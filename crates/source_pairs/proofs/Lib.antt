@@ -1,0 +1,4 @@
+-- the cut as it is found
+pub mod CutLemmas
+-- one answer
+pub mod PairLemmas
