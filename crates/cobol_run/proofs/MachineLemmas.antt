@@ -1,5 +1,5 @@
 -- The machine's parts as those of the source machine.
-use Rattle.std.proofs.Common.{◌≡◌, ℕ, zero, suc, ◌+◌, ◌<◌, ◌≤◌, ◌==◌, false, List, [], ◌∷◌, drop, get_or, length, Option, Some, None, is_some, slice_get, Result, Ok, Err, arith, refl, ap, sym, ◌∙◌, subst}
+use Rattle.std.proofs.Common.{◌≡◌, ℕ, zero, suc, ◌+◌, ◌<◌, ◌≤◌, ◌==◌, false, List, [], ◌∷◌, drop, get_or, length, ◌++◌, append-nil, Option, Some, None, is_some, slice_get, Result, Ok, Err, arith, refl, ap, sym, ◌∙◌, subst}
 use Rattle.std.specs.Prelude.{if◌then◌else◌, IfOk, IsTrue}
 use Rattle.std.proofs.Math.Seq.{drop-cons}
 use Rattle.std.proofs.lemmas.Option.{slice_get-get_or, slice_get_past}
@@ -7,7 +7,7 @@ use Rattle.cob_base.specs.declared.memory.NoMemory.{NoMemory}
 use Rattle.cob_tree.specs.declared.program.Paragraph.{Paragraph}
 use Rattle.cob_tree.specs.declared.program.Program.{Program}
 use Rattle.file_model.specs.World.{World}
-use Rattle.control_flow_theory.specs.semantics.Outcome.{Trace}
+use Rattle.control_flow_theory.specs.semantics.Outcome.{Trace, Tried, Got, Ends}
 use Rattle.control_flow_theory.specs.semantics.Source as source
 use Rattle.cob_act.specs.Acting.{is_inner}
 use Rattle.cob_tree.specs.declared.stmt.Stmt.{Stmt}
@@ -20,13 +20,17 @@ use Rattle.cobol_theory.specs.cobol_meaning.Runs.{State, doing_in, files_left}
 use Rattle.cobol_run.specs.declared.frame.Frame.{Frame}
 use Rattle.cobol_run.specs.declared.held.Plan.{Plan}
 use Rattle.cobol_run.specs.declared.machine.Machine.{Machine}
+use Rattle.cobol_run.specs.declared.machine.Ending.TheVariants as ending
 use Rattle.cobol_run.specs.declared.machine.StepOutcome.{StepOutcome}
+use Rattle.cobol_run.specs.declared.machine.StepOutcome.TheVariants as step
 use Rattle.cobol_run.specs.declared.frames.Head.{Head}
 use Rattle.cobol_run.specs.Frames.{heads, last_in, last_of, pending_of, rest_of, sentences_before}
-use Rattle.control_flow_theory.specs.semantics.Items.{item_way}
+use Rattle.control_flow_theory.specs.semantics.Items.{item_way, to_one, tried, way_after}
+use Rattle.control_flow_theory.specs.semantics.Items as way
 use Rattle.cobol_run.specs.declared.held.Held.{Held}
-use Rattle.cobol_run.specs.declared.next_step.NextStep as ways
-use Rattle.cobol_run.specs.Machine.{Follows, ends_by, falls_by, goes_by, rest_in, rests_by, state_in, state_with, steps_by}
+use Rattle.cob_act.specs.declared.acting.ActOutcome.{ActOutcome}
+use Rattle.cob_act.specs.declared.acting.ActOutcome.TheVariants as done
+use Rattle.cobol_run.specs.Machine.{Follows, ending_seen, ends_by, falls_by, goes_by, rest_in, rests_by, state_in, state_with, step_of, steps_by}
 use Rattle.cobol_run.specs.Over.{FollowsOver, StandsOver, StepBreaks, stmt_meant}
 use Rattle.cobol_run.specs.Own.{NoFiling, OwnState, StandsAlone}
 use Rattle.cobol_run.specs.Plain.{PlainAct, PlainPicker, PlainState}
@@ -35,7 +39,7 @@ use Rattle.control_flow_theory.specs.language.Own.{OwnAct, OwnPicker, OwnTest}
 use Rattle.cobol_run.specs.Standing as standing
 use Rattle.cobol_run.specs.Plan.{declared_by, memory_in}
 use Rattle.cobol_run.specs.Points.{next_operations, operations_in, stmt_operations}
-use Rattle.control_flow_theory.specs.runs.Run.{Going}
+use Rattle.control_flow_theory.specs.runs.Run.{Going, Over}
 use Rattle.meanings.specs.statements.Filing.{Operation}
 use Rattle.cobol_run.specs.NextStep.{KeepsPending, way_seen}
 use Rattle.cob_act.specs.declared.files.work.FileWork.{FileWork}
@@ -163,20 +167,71 @@ headed old new (Err e) next items is h = tt
 headed old new (Ok step) next items is h = λ world trace rest alone.
     subst (λ list. Follows step new world trace (rests_by old.plan list (state_with old rest (memory_in old.held.store world) trace))) (sym is) (h world trace rest)
 
+-- a statement that did this goes on so
+step-goes : (act : ActOutcome) (machine : Machine) (rest : List Item) (memory : Memory) (world : World) (trace : Trace) →
+    Follows (step_of act) machine world trace (goes_by machine.plan (way_seen act machine.held.shown (memory_in machine.held.store world) (rest_in machine)) (state_with machine rest memory trace))
+step-goes done.Went machine rest memory world trace = ap (λ t. state_in machine world t) (append-nil trace)
+step-goes done.Shown machine rest memory world trace = refl
+step-goes (done.Chose arm) machine rest memory world trace = ap (λ t. state_in machine world t) (append-nil trace)
+step-goes (done.Abended abend) machine rest memory world trace =
+    (ap (λ t. record { trace = t; standing = Over (ending_seen (ending.Abended abend) world.shelves) }) (append-nil trace), refl)
+
+-- a jump to a paragraph
+pub jumped : (old new : Machine) (number : ℕ) (rest : List Item) (world : World) (trace : Trace) →
+    new.plan ≡ old.plan → new.held ≡ old.held → new.paragraph ≡ number → KeepsPending old.frames new.frames →
+    rest_of (last_of old.plan.program.now number) new.frames ≡ source.rest_of (control_of old.plan.program.now) number →
+    Follows step.On new world trace (goes_by old.plan (way.To [] (memory_in old.held.store world) number) (state_with old rest (memory_in old.held.store world) trace))
+jumped old new number rest world trace plan held paragraph pending there =
+    gone old new number rest world (trace ++ []) plan held paragraph pending there
+    ∙ ap (λ t. state_in new world t) (append-nil trace)
+
+-- a statement that jumps, as control sees it
+pub jumps_so : (old new : Machine) (result : Result StepOutcome NoMemory) (stmt : Stmt) (there : language.Stmt) → seen (last-in old) stmt ≡ there →
+    IfOk result (λ step. (world : World) (trace : Trace) (rest : List Item) → Follows step new world trace (goes_by old.plan (way.stmt_way (doing_in (declared_by old.plan)) there (rest_in old) (memory_in old.held.store world)) (state_with old rest (memory_in old.held.store world) trace))) →
+    IfOk result (λ step. (world : World) (trace : Trace) (rest : List Item) → Follows step new world trace (goes_by old.plan (stmt_meant old stmt world) (state_with old rest (memory_in old.held.store world) trace)))
+jumps_so old new (Err e) stmt there is h = tt
+jumps_so old new (Ok step) stmt there is h = λ world trace rest.
+    subst (λ (s : language.Stmt). Follows step new world trace (goes_by old.plan (way.stmt_way (doing_in (declared_by old.plan)) s (rest_in old) (memory_in old.held.store world)) (state_with old rest (memory_in old.held.store world) trace))) (sym is) (h world trace rest)
+
+-- GO TO DEPENDING, by the name that was chosen
+module _ (old new : Machine) (step : StepOutcome) (to : List ℕ) (rest : List Item) (world : World) (trace : Trace) where
+  abbrev GoesTo : Tried Memory ℕ → Type 0
+  GoesTo t = Follows step new world trace (goes_by old.plan (tried t (λ k. to_one (doing_in (declared_by old.plan)) (slice_get to k) (rest_in old))) (state_with old rest (memory_in old.held.store world) trace))
+
+  jumped-to-one : (t : Tried Memory ℕ) (name : ℕ) (chosen : Option ℕ) → Got [] name (memory_in old.held.store world) ≡ t → chosen ≡ slice_get to name →
+      Follows step new world trace (goes_by old.plan (to_one (doing_in (declared_by old.plan)) chosen (rest_in old) (memory_in old.held.store world)) (state_with old rest (memory_in old.held.store world) trace)) → GoesTo t
+  jumped-to-one t name None is at h = subst GoesTo is (subst (λ (o : Option ℕ). Follows step new world trace (goes_by old.plan (way_after [] (to_one (doing_in (declared_by old.plan)) o (rest_in old) (memory_in old.held.store world))) (state_with old rest (memory_in old.held.store world) trace))) at h)
+  jumped-to-one t name (Some paragraph) is at h = subst GoesTo is (subst (λ (o : Option ℕ). Follows step new world trace (goes_by old.plan (way_after [] (to_one (doing_in (declared_by old.plan)) o (rest_in old) (memory_in old.held.store world))) (state_with old rest (memory_in old.held.store world) trace))) at h)
+
+pub jumped_to_named : (old new : Machine) (result : Result StepOutcome NoMemory) (to : List ℕ) (chooses : World → Tried Memory ℕ) (name paragraph : ℕ) →
+    ((world : World) → Got [] name (memory_in old.held.store world) ≡ chooses world) → Some paragraph ≡ slice_get to name →
+    IfOk result (λ step. (world : World) (trace : Trace) (rest : List Item) → Follows step new world trace (goes_by old.plan (way.To [] (memory_in old.held.store world) paragraph) (state_with old rest (memory_in old.held.store world) trace))) →
+    IfOk result (λ step. (world : World) (trace : Trace) (rest : List Item) → GoesTo old new step to rest world trace (chooses world))
+jumped_to_named old new (Err e) to chooses name paragraph is at h = tt
+jumped_to_named old new (Ok step) to chooses name paragraph is at h = λ world trace rest.
+    jumped-to-one old new step to rest world trace (chooses world) name (Some paragraph) (is world) at (h world trace rest)
+
+pub jumped_to_none : (old : Machine) (to : List ℕ) (chooses : World → Tried Memory ℕ) (name : ℕ) →
+    ((world : World) → Got [] name (memory_in old.held.store world) ≡ chooses world) → None ≡ slice_get to name →
+    (world : World) (trace : Trace) (rest : List Item) → GoesTo old old step.On to rest world trace (chooses world)
+jumped_to_none old to chooses name is at = λ world trace rest.
+    jumped-to-one old old step.On to rest world trace (chooses world) name None (is world) at
+    (step-goes done.Went old rest (memory_in old.held.store world) world trace)
+
 -- an item goes its way
-pub head_goes : (old : Machine) (frames : List Frame) (held : Held) (new : Machine) (result : Result StepOutcome NoMemory) (next : Head) (item : Item) (way : ways.NextStep) →
+pub head_goes : (old : Machine) (frames : List Frame) (held : Held) (next : Head) (item : Item) (act : ActOutcome) (step : StepOutcome) →
     heads (last-in old) next (rest_in old) ≡ item ∷ rest_in old → pending_of old.plan.program.now frames ≡ pending_of old.plan.program.now old.frames →
     ((world : World) → StandsAlone (last-in old) next →
-    way_seen (last-in old) way held.shown (memory_in held.store world) (rest_of (last-in old) frames) ≡ item_way (doing_in (declared_by old.plan)) item (rest_in old) (memory_in old.held.store world)) →
-    IfOk result (λ step. (world : World) (trace : Trace) (rest : List Item) (memory : Memory) → Follows step new world trace (goes_by old.plan (way_seen (last-in old) way held.shown (memory_in held.store world) (rest_in (mid old frames held))) (state_with (mid old frames held) rest memory trace))) →
-    Heads old new result next
-head_goes old frames held new (Err e) next item way is same meant h = tt
-head_goes old frames held new (Ok step) next item way is same meant h = λ world trace rest alone.
+    way_seen act held.shown (memory_in held.store world) (rest_of (last-in old) frames) ≡ item_way (doing_in (declared_by old.plan)) item (rest_in old) (memory_in old.held.store world)) →
+    step ≡ step_of act → Heads old (mid old frames held) (Ok step) next
+head_goes old frames held next item act step is same meant done = λ world trace rest alone.
     let memory : Memory = memory_in old.held.store world in
+    let new : Machine = mid old frames held in
     subst (λ list. Follows step new world trace (rests_by old.plan list (state_with old rest memory trace))) (sym is)
     (subst (λ pending. Follows step new world trace (goes_by old.plan (item_way (doing_in (declared_by old.plan)) item (rest_in old) memory) (record (state_with old rest memory trace) { pending = pending }))) same
-    (subst (λ way. Follows step new world trace (goes_by old.plan way (state_with (mid old frames held) rest memory trace))) (meant world alone)
-    (h world trace rest memory)))
+    (subst (λ way. Follows step new world trace (goes_by old.plan way (state_with new rest memory trace))) (meant world alone)
+    (subst (λ (s : StepOutcome). Follows s new world trace (goes_by old.plan (way_seen act held.shown (memory_in held.store world) (rest_of (last-in old) frames)) (state_with new rest memory trace))) (sym done)
+    (step-goes act new rest memory world trace))))
 
 -- ---- a step
 

@@ -37,32 +37,46 @@ use Rattle.cobol_run.specs.declared.frame.Frame.{Frame}
 use Rattle.cobol_run.specs.declared.frame.LoopProgress.{LoopProgress}
 use Rattle.cobol_run.specs.declared.frame.LoopProgress.TheVariants as turning
 use Rattle.cobol_run.specs.declared.held.Held.{Held}
-use Rattle.cobol_run.specs.declared.next_step.NextStep as ways
+use Rattle.cob_act.specs.declared.acting.ActOutcome.{ActOutcome}
+use Rattle.cob_act.specs.declared.acting.ActOutcome.TheVariants as done
 use Rattle.cobol_run.specs.Frames.{rest_of, turning_seen}
 use Rattle.cobol_run.specs.Own.{ActsAlone, HeadOwn}
 use Rattle.cobol_run.specs.Plain.{once_by, once_of}
-use Rattle.cobol_run.specs.Plan.{memory_in}
+use Rattle.cobol_run.specs.Plan.{did, memory_in}
 use Rattle.cobol_run.specs.Standing as standing
 use Rattle.cobol_run.specs.NextStep.{Leads, LeadsWhere, arm_at, arm_by, either, loop_meant, on, steps_on_meant, stmts_or_none, turn_meant, way_seen}
 use Rattle.cobol_run.proofs.AlwaysLemmas.{always_holds}
 use Rattle.cobol_run.proofs.WayLemmas.{do-way, if-way, test-is}
 
 -- what was meant is what control says
-pub led : (Holds : ℕ → Type 0) (result : Result ways.NextStep NoMemory) (before after : List Frame) (old new : Held) (meant other : ℕ → List Item → Memory → Way Memory) →
+pub led : (Holds : ℕ → Type 0) (result : Result ActOutcome NoMemory) (before after : List Frame) (old new : Held) (meant other : ℕ → List Item → Memory → Way Memory) →
     ((last : ℕ) (rest : List Item) (memory : Memory) → Holds last → meant last rest memory ≡ other last rest memory) →
     IfOk result (λ way. Leads way before after old new meant) → IfOk result (λ way. LeadsWhere Holds way before after old new other)
 led Holds (Err e) before after old new meant other same h = tt
 led Holds (Ok way) before after old new meant other same h = λ world last holds.
     h world last ∙ same last (rest_of last before) (memory_in old.store world) holds
 
+-- what was done is the way that it goes
+acted-way : (act : ActOutcome) (shown : List ℕ) (memory : Memory) (rest : List Item) → way_seen act shown memory rest ≡ tried (did act shown memory) (λ u. on rest)
+acted-way done.Went shown memory rest = refl
+acted-way done.Shown shown memory rest = refl
+acted-way (done.Chose arm) shown memory rest = refl
+acted-way (done.Abended abend) shown memory rest = refl
+
+pub acted_ways : (result : Result ActOutcome NoMemory) (new : Held) (meant : World → Tried Memory (Unit {0})) → IfOk result (λ act. (world : World) → did act new.shown (memory_in new.store world) ≡ meant world) →
+    IfOk result (λ act. (world : World) (rest : List Item) → way_seen act new.shown (memory_in new.store world) rest ≡ tried (meant world) (λ u. on rest))
+acted_ways (Err e) new meant h = tt
+acted_ways (Ok act) new meant h = λ world rest.
+    acted-way act new.shown (memory_in new.store world) rest ∙ ap (λ t. tried t (λ u. on rest)) (h world)
+
 -- the frames stay
-pub led_beside : (Holds : ℕ → Type 0) (result : Result ways.NextStep NoMemory) (frames : List Frame) (old new : Held) (meant other : ℕ → List Item → Memory → Way Memory) →
-    ((last : ℕ) (rest : List Item) (memory : Memory) → Holds last → meant last rest memory ≡ other last rest memory) →
-    IfOk result (λ way. (last : ℕ) (world : World) (rest : List Item) → way_seen last way new.shown (memory_in new.store world) rest ≡ meant last rest (memory_in old.store world)) →
+pub led_beside : (Holds : ℕ → Type 0) (result : Result ActOutcome NoMemory) (frames : List Frame) (old new : Held) (meant : List Item → Memory → Way Memory) (other : ℕ → List Item → Memory → Way Memory) →
+    ((last : ℕ) (rest : List Item) (memory : Memory) → Holds last → meant rest memory ≡ other last rest memory) →
+    IfOk result (λ way. (world : World) (rest : List Item) → way_seen way new.shown (memory_in new.store world) rest ≡ meant rest (memory_in old.store world)) →
     IfOk result (λ way. LeadsWhere Holds way frames frames old new other)
 led_beside Holds (Err e) frames old new meant other same h = tt
 led_beside Holds (Ok way) frames old new meant other same h = λ world last holds.
-    h last world (rest_of last frames) ∙ same last (rest_of last frames) (memory_in old.store world) holds
+    h world (rest_of last frames) ∙ same last (rest_of last frames) (memory_in old.store world) holds
 
 tried-alike : {Value : Type 0} (got : Tried Memory Value) (f g : Value → Memory → Way Memory) → ((value : Value) (memory : Memory) → f value memory ≡ g value memory) → tried got f ≡ tried got g
 tried-alike (Got trace value memory) f g same = ap (way_after trace) (same value memory)
@@ -258,7 +272,7 @@ module _ (declared : Declared) where
 
   -- ---- arms of the code
 
-  pub if_answered : (stmt : Stmt) (cond : Cond) (met unmet met_now unmet_now : List Stmt) (result : Result ways.NextStep NoMemory) (old_frames new_frames : List Frame) (old new : Held) → stmt ≡ stmts.If cond met unmet → met_now ≡ met → unmet_now ≡ unmet →
+  pub if_answered : (stmt : Stmt) (cond : Cond) (met unmet met_now unmet_now : List Stmt) (result : Result ActOutcome NoMemory) (old_frames new_frames : List Frame) (old new : Held) → stmt ≡ stmts.If cond met unmet → met_now ≡ met → unmet_now ≡ unmet →
       IfOk result (λ way. Leads way old_frames new_frames old new (λ last rest memory. tried (tests_in declared cond memory) (λ holds. on (before (seen_stmts last (if holds then met_now else unmet_now)) rest)))) →
       IfOk result (λ way. LeadsWhere (ActsAlone stmt) way old_frames new_frames old new (λ last rest memory. item_way doing (items.Do (seen last stmt)) rest memory))
   if_answered stmt cond met unmet met_now unmet_now result old_frames new_frames old new is m u h =
@@ -270,7 +284,7 @@ module _ (declared : Declared) where
       ∙ ap (λ (x : List Stmt). tried (tests_in declared cond memory) (λ holds. on (before (seen_stmts last (if holds then met else x)) rest))) u
       ∙ if_led last cond met unmet rest memory plain) h)
 
-  pub evaluate_answered : (stmt : Stmt) (subject : Subject) (whens whens_now : List When) (other : Option (List Stmt)) (result : Result ways.NextStep NoMemory) (old_frames new_frames : List Frame) (old new : Held) → stmt ≡ stmts.Evaluate subject whens other → whens_now ≡ whens →
+  pub evaluate_answered : (stmt : Stmt) (subject : Subject) (whens whens_now : List When) (other : Option (List Stmt)) (result : Result ActOutcome NoMemory) (old_frames new_frames : List Frame) (old new : Held) → stmt ≡ stmts.Evaluate subject whens other → whens_now ≡ whens →
       IfOk result (λ way. Leads way old_frames new_frames old new (λ last rest memory. tried (chooses_in declared (language.Evaluate subject (map (λ when. (out-When when).tests) whens_now) (is_some other)) memory) (λ arm. on (before (seen_stmts last (arm_at whens_now other arm)) rest)))) →
       IfOk result (λ way. LeadsWhere (ActsAlone stmt) way old_frames new_frames old new (λ last rest memory. item_way doing (items.Do (seen last stmt)) rest memory))
   evaluate_answered stmt subject whens whens_now other result old_frames new_frames old new is w h =
@@ -281,7 +295,7 @@ module _ (declared : Declared) where
       (λ last rest memory plain. ap (λ list. tried (chooses_in declared (language.Evaluate subject (map (λ when. (out-When when).tests) list) (is_some other)) memory) (λ arm. on (before (seen_stmts last (arm_at list other arm)) rest))) w
       ∙ evaluate_led last subject whens other rest memory plain) h)
 
-  pub loop_answered : (stmt : Stmt) (control : Control) (body body_now : List Stmt) (result : Result ways.NextStep NoMemory) (old_frames new_frames : List Frame) (old new : Held) → stmt ≡ stmts.Loop control body → body_now ≡ body →
+  pub loop_answered : (stmt : Stmt) (control : Control) (body body_now : List Stmt) (result : Result ActOutcome NoMemory) (old_frames new_frames : List Frame) (old new : Held) → stmt ≡ stmts.Loop control body → body_now ≡ body →
       IfOk result (λ way. Leads way old_frames new_frames old new (λ last rest memory. loop_meant declared control (language.Nested (seen_stmts last body_now)) rest memory)) →
       IfOk result (λ way. LeadsWhere (ActsAlone stmt) way old_frames new_frames old new (λ last rest memory. item_way doing (items.Do (seen last stmt)) rest memory))
   loop_answered stmt control body body_now result old_frames new_frames old new is b h =
@@ -292,12 +306,12 @@ module _ (declared : Declared) where
       ∙ loop_led last control body rest memory
       ∙ ap (λ s. item_way doing (items.Do (seen last s)) rest memory) (sym is)) h
 
-  pub alone_answered : (stmt : Stmt) (calc : Calc) (into : List Target) (arms : Arms) (result : Result ways.NextStep NoMemory) (frames : List Frame) (old new : Held) → stmt ≡ stmts.Arith calc into arms → has_arms arms ≡ false →
-      IfOk result (λ way. (last : ℕ) (world : World) (rest : List Item) → way_seen last way new.shown (memory_in new.store world) rest ≡ tried (does_to declared stmt (memory_in old.store world)) (λ u. on rest)) →
+  pub alone_answered : (stmt : Stmt) (calc : Calc) (into : List Target) (arms : Arms) (result : Result ActOutcome NoMemory) (frames : List Frame) (old new : Held) → stmt ≡ stmts.Arith calc into arms → has_arms arms ≡ false →
+      IfOk result (λ way. (world : World) (rest : List Item) → way_seen way new.shown (memory_in new.store world) rest ≡ tried (does_to declared stmt (memory_in old.store world)) (λ u. on rest)) →
       IfOk result (λ way. LeadsWhere (ActsAlone stmt) way frames frames old new (λ last rest memory. item_way doing (items.Do (seen last stmt)) rest memory))
   alone_answered stmt calc into arms result frames old new is none h =
       led_beside (ActsAlone stmt) result frames old new
-      (λ last rest memory. tried (does_to declared stmt memory) (λ u. on rest))
+      (λ rest memory. tried (does_to declared stmt memory) (λ u. on rest))
       (λ last rest memory. item_way doing (items.Do (seen last stmt)) rest memory)
       (λ last rest memory plain. subst (λ s. tried (does_to declared s memory) (λ u. on rest) ≡ item_way doing (items.Do (seen last s)) rest memory) (sym is) (arith_alone_led last calc into arms none rest memory (subst (λ s. ActsAlone s last) is plain))) h
 

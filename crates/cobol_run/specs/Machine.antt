@@ -6,6 +6,8 @@ use Rattle.control_flow_theory.specs.semantics.Outcome.{Trace, Normally, Overlap
 use Rattle.control_flow_theory.specs.semantics.Outcome as outcome
 use Rattle.control_flow_theory.specs.semantics.Items as control
 use Rattle.control_flow_theory.specs.semantics.Source.{end_step, falls, goes, performs, rest_step}
+use Rattle.cob_act.specs.declared.acting.ActOutcome.{ActOutcome}
+use Rattle.cob_act.specs.declared.acting.ActOutcome.TheVariants as done
 use Rattle.cob_tree.specs.declared.ending.FlowFault.{FlowFault}
 use Rattle.cob_tree.specs.declared.ending.FlowFault.TheVariants as flow
 use Rattle.control_flow_theory.specs.language.Control.{control_of}
@@ -62,6 +64,13 @@ Follows (step.Over ending) machine world trace state =
     (state.run ≡ record { trace = trace; standing = Over (ending_seen ending world.shelves) })
     × (state.memory.world ≡ world)
 Follows step.Failed machine world trace state = ⊥
+
+-- what a step comes to whose statement did this
+abbrev pub step_of : ActOutcome → StepOutcome
+step_of done.Went = step.On
+step_of done.Shown = step.Shown
+step_of (done.Chose arm) = step.On
+step_of (done.Abended abend) = step.Over (ending.Abended abend)
 
 -- ---- steps of the source machine, by what the machine plans
 

@@ -6,7 +6,7 @@ use Rattle.cob_tree.specs.declared.stmt.Arms.{Arms, out-Arms}
 use Rattle.cob_tree.specs.declared.stmt.When.{When, out-When}
 use Rattle.cob_store.specs.Answer.{Answer}
 use Rattle.file_model.specs.World.{World}
-use Rattle.control_flow_theory.specs.semantics.Outcome.{Normally, Abend}
+use Rattle.control_flow_theory.specs.semantics.Outcome.{Abend}
 use Rattle.control_flow_theory.specs.semantics.Doing.{Doing}
 use Rattle.control_flow_theory.specs.semantics.Items as control
 use Rattle.control_flow_theory.specs.semantics.Items.{loop_begins, tried, turn_way, turns}
@@ -27,40 +27,38 @@ use Rattle.cobol_run.specs.declared.frame.Frame.{Frame}
 use Rattle.cobol_run.specs.declared.held.Held.{Held}
 use Rattle.cobol_run.specs.declared.frame.LoopProgress.{LoopProgress}
 use Rattle.cobol_run.specs.declared.frame.LoopProgress.TheVariants.{Counted, Tests, Steps, StepsAfter}
-use Rattle.cobol_run.specs.declared.next_step.NextStep.{NextStep}
-use Rattle.cobol_run.specs.declared.next_step.NextStep.TheVariants.{On, Shown, Halts, Abends, To, ToSectionEnd}
+use Rattle.cob_act.specs.declared.acting.ActOutcome.{ActOutcome}
+use Rattle.cob_act.specs.declared.acting.ActOutcome.TheVariants.{Went, Shown, Chose, Abended}
 use Rattle.cobol_run.specs.Frames.{pending_of, rest_of}
 use Rattle.cobol_run.specs.Plan.{memory_in}
 
--- a step as a way of the theory, with these bytes shown, this memory left, and these items to go on
--- with, in a section whose last paragraph is this one
-abbrev pub way_seen : ℕ → NextStep → List ℕ → Memory → List Item → control.Way Memory
-way_seen last On shown memory rest = control.On [] memory rest
-way_seen last Shown shown memory rest = control.On ((0 ∷ shown) ∷ []) memory rest
-way_seen last Halts shown memory rest = control.Halts [] Normally memory
-way_seen last (Abends abend) shown memory rest =
+-- what was done as a way of the theory, with these bytes shown, this memory left, and these items
+-- to go on with
+abbrev pub way_seen : ActOutcome → List ℕ → Memory → List Item → control.Way Memory
+way_seen Went shown memory rest = control.On [] memory rest
+way_seen Shown shown memory rest = control.On ((0 ∷ shown) ∷ []) memory rest
+way_seen (Chose arm) shown memory rest = control.On [] memory rest
+way_seen (Abended abend) shown memory rest =
     control.Halts [] (Abend (abend_number abend)) memory
-way_seen last (To paragraph) shown memory rest = control.To [] memory paragraph
-way_seen last ToSectionEnd shown memory rest = control.ToEnd [] memory last
 
 -- the way that goes on with these items
 abbrev pub on : List Item → Memory → control.Way Memory
 on items memory = control.On [] memory items
 
 -- what was meant of the rest and the memory is the way that was answered, where this holds
-abbrev pub LeadsWhere : (ℕ → Type 0) → NextStep → (before after : List Frame) → (old new : Held) →
+abbrev pub LeadsWhere : (ℕ → Type 0) → ActOutcome → (before after : List Frame) → (old new : Held) →
     (ℕ → List Item → Memory → control.Way Memory) → Type 0
 LeadsWhere Holds way before after old new meant =
     (world : World) (last : ℕ) → Holds last →
-    way_seen last way new.shown (memory_in new.store world) (rest_of last after)
+    way_seen way new.shown (memory_in new.store world) (rest_of last after)
     ≡ meant last (rest_of last before) (memory_in old.store world)
 
 -- always
-abbrev pub Leads : NextStep → (before after : List Frame) → (old new : Held) →
+abbrev pub Leads : ActOutcome → (before after : List Frame) → (old new : Held) →
     (ℕ → List Item → Memory → control.Way Memory) → Type 0
 Leads way before after old new meant =
     (world : World) (last : ℕ) →
-    way_seen last way new.shown (memory_in new.store world) (rest_of last after)
+    way_seen way new.shown (memory_in new.store world) (rest_of last after)
     ≡ meant last (rest_of last before) (memory_in old.store world)
 
 -- no return is made or taken

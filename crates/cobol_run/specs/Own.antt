@@ -1,7 +1,8 @@
 -- Programs without a word on an added item, as in each that is read.
-use Rattle.std.specs.Prelude.{◌≡◌, ℕ, true, None}
+use Rattle.std.specs.Prelude.{◌≡◌, ℕ, Bool, true, false, None}
 use Rattle.cob_tree.specs.declared.program.Program.{Program}
-use Rattle.cob_tree.specs.declared.stmt.Stmt.{Stmt}
+use Rattle.cob_tree.specs.declared.stmt.Stmt.{Stmt, out-Stmt}
+use Rattle.cob_tree.specs.declared.stmt.Stmt.TheOpen.{Stmt-F}
 use Rattle.cob_act.specs.Acting.{is_inner}
 use Rattle.control_flow_theory.specs.language.Control.{control_of, seen}
 use Rattle.control_flow_theory.specs.language.Language as language
@@ -33,9 +34,20 @@ HeadOwn _ = Unit {0}
 abbrev pub ActsInside : Stmt → ℕ → Type 0
 ActsInside stmt last = HeadOwn (seen last stmt) × (is_inner stmt ≡ true)
 
--- nor a PERFORM once
+-- the statement goes to another paragraph, without a pending return, or stops the run
+abbrev pub jumps : Stmt → Bool
+jumps stmt =
+    elim (out-Stmt stmt) [
+      | Stmt-F.Go to ↦ true
+      | Stmt-F.GoDepending to on ↦ true
+      | Stmt-F.ExitSection ↦ true
+      | Stmt-F.StopRun ↦ true
+      | _ ↦ false
+    ]
+
+-- nor a PERFORM once, and it doesn't jump
 abbrev pub ActsAlone : Stmt → ℕ → Type 0
-ActsAlone stmt last = ActsInside stmt last × (once_of stmt ≡ None)
+ActsAlone stmt last = ActsInside stmt last × (once_of stmt ≡ None) × (jumps stmt ≡ false)
 
 -- what is next is so, in a section whose last paragraph is this one
 abbrev pub StandsAlone : ℕ → Head → Type 0

@@ -6,7 +6,7 @@
 //! files are known they are the events of the source's step (`Tracks`). `finish` closes what is
 //! left open, and names the device that failed first.
 
-ghost use Rattle.std.specs.Prelude.{◌≡◌, ◌<◌, ◌^◌, [], ℕ, List, IfOk, length, map, take, vec_capacity};
+ghost use Rattle.std.specs.Prelude.{◌≡◌, ◌<◌, ◌^◌, [], ℕ, List, IfOk, length, vec_capacity};
 ghost use Rattle.cob_tree.specs.declared.program.Program.{Program};
 ghost use Rattle.cobol_theory.specs.cobol_meaning.Runs.{Files};
 ghost use Rattle.control_flow_theory.specs.semantics.Outcome.{Trace};
@@ -23,8 +23,8 @@ use crate::running::{Ran, device_fault, start};
 use cob_act::files::close_left;
 use cob_base::{NoMemory, Text};
 use cob_tree::Program;
-use file_model::operations::Watched;
-use file_model::{Bench, Device};
+use file_model::Bench;
+use file_model::operations::Shown;
 use std::alloc::Global;
 
 /// A machine at the start of this program, which keeps what it does with files.
@@ -46,18 +46,16 @@ pub fn begin<'a>(alloc: Global, program: &'a Program) -> Result<Machine<'a>, NoM
 pub fn advance(machine: &mut Machine, bench: &mut Bench) -> Result<StepOutcome, NoMemory>
     // over devices whose files are known its events are those of the source's step
     ensures tracks { (program : Program) (files : Files) (done : ℕ) (trace : Trace) →
-        IsOwn program → Tracks program files machine.old (take bench.old.left
-        (map ⟦<Box<dyn Device> as Watched>⟧.seen bench.old.devices.items)) done trace →
-        TracksOn program files result machine.new (take bench.new.left
-        (map ⟦<Box<dyn Device> as Watched>⟧.seen bench.new.devices.items)) done trace }
+        IsOwn program → Tracks program files machine.old
+        (⟦<Bench as Shown>⟧.on bench.old) done trace →
+        TracksOn program files result machine.new (⟦<Bench as Shown>⟧.on bench.new) done trace }
     ensures plan { machine.new.plan ≡ machine.old.plan }
 
     // what is left of a bench of which no device had failed
     ensures falls { (left : ℕ) (old : List Seen) → SameBench machine.old.plan.program.now.files
-        left bench.old.left old
-        (map ⟦<Box<dyn Device> as Watched>⟧.seen bench.old.devices.items) →
+        left bench.old.left old (⟦<Bench as Shown>⟧.all bench.old) →
         StepFalls result machine.old.plan.program.now.files left bench.new.left old
-        (map ⟦<Box<dyn Device> as Watched>⟧.seen bench.new.devices.items) machine.new.table.rows }
+        (⟦<Bench as Shown>⟧.all bench.new) machine.new.table.rows }
 {
     machine.step(bench)
 }
@@ -95,20 +93,16 @@ pub fn finish(
 ) -> Finished
     ensures falls { (old : List Seen) → length machine.old.plan.program.now.files < 2 ^ 32 →
         LeftSoFar machine.old.plan.program.now.files left bench.old.left old
-        (map ⟦<Box<dyn Device> as Watched>⟧.seen bench.old.devices.items)
-        machine.old.table.rows →
+        (⟦<Bench as Shown>⟧.all bench.old) machine.old.table.rows →
         FinishFalls result (vec_capacity room.old) machine.old.plan.program.now.files left
-        bench.new.left old
-        (map ⟦<Box<dyn Device> as Watched>⟧.seen bench.new.devices.items) }
+        bench.new.left old (⟦<Bench as Shown>⟧.all bench.new) }
     ensures ends { (gone : List (List ℕ)) (old : List Seen) →
         length machine.old.plan.program.now.files < 2 ^ 32 →
         LeftOf (is_used (addresses_of machine.old.plan.program.now.files)) gone
-        left bench.old.left old
-        (map ⟦<Box<dyn Device> as Watched>⟧.seen bench.old.devices.items) →
+        left bench.old.left old (⟦<Bench as Shown>⟧.all bench.old) →
         AreShut gone (addresses_of machine.old.plan.program.now.files) machine.old.table.rows →
         Finishes result machine.old.plan.program.now.files gone left bench.new.left old
-        (map ⟦<Box<dyn Device> as Watched>⟧.seen bench.new.devices.items)
-        (take bench.old.left (map ⟦<Box<dyn Device> as Watched>⟧.seen bench.old.devices.items))
+        (⟦<Bench as Shown>⟧.all bench.new) (⟦<Bench as Shown>⟧.on bench.old)
         machine.old.table.rows }
 {
     let files = machine.plan.program.files.as_slice();

@@ -1,6 +1,6 @@
 //! Statements on files.
 
-ghost use Rattle.std.specs.Prelude.{◌≡◌, ℕ, IfErr, IfOk, IsTrue, false, map, not, option_copied, take};
+ghost use Rattle.std.specs.Prelude.{◌≡◌, ℕ, IfErr, IfOk, IsTrue, false, not, option_copied};
 ghost use Rattle.cob_act.specs.Acting.{is_inner};
 ghost use Rattle.control_flow_theory.specs.semantics.Items.{item_way};
 ghost use Rattle.cobol_theory.specs.cobol_meaning.Runs.{doing_in};
@@ -28,8 +28,8 @@ use cob_act::files::{
 use cob_act::{ActOutcome, has_arms};
 use cob_store::Stack;
 use cob_tree::{Arms, Place, Stmt};
-use file_model::operations::{FileFault, Watched};
-use file_model::{Bench, Device, FileTable};
+use file_model::operations::{FileFault, Shown};
+use file_model::{Bench, FileTable};
 
 /// Whether a statement is one on files.
 #[tactic(auto, using(crate::proofs::FilingLemmas::filing_none, crate::proofs::EventLemmas::filing_shows))]
@@ -89,28 +89,24 @@ pub fn filed<'a>(
     work: &mut FileWork,
 ) -> Result<ActOutcome, FileFault>
     ensures bench { DoneOver result plan.now.program.now.files bench.old.left bench.new.left
-        (map ⟦<Box<dyn Device> as Watched>⟧.seen bench.old.devices.items)
-        (map ⟦<Box<dyn Device> as Watched>⟧.seen bench.new.devices.items) table.new.rows }
+        (⟦<Bench as Shown>⟧.all bench.old) (⟦<Bench as Shown>⟧.all bench.new) table.new.rows }
 
     // over devices whose files are known it does what its meaning says
     ensures over { (world : World) → is_inner stmt.now ≡ false → IsOver plan.now.program.now.files
-        (take bench.old.left (map ⟦<Box<dyn Device> as Watched>⟧.seen bench.old.devices.items))
+        (⟦<Bench as Shown>⟧.on bench.old)
         table.old.rows world → FiledOver result plan.now.program.now.files
-        (take bench.new.left (map ⟦<Box<dyn Device> as Watched>⟧.seen bench.new.devices.items))
-        table.new.rows held.new.store frames.new
+        (⟦<Bench as Shown>⟧.on bench.new) table.new.rows held.new.store frames.new
         (λ last. item_way (doing_in (declared_by plan.now)) (Do (seen last stmt.now))
         (rest_of last frames.old) (memory_in held.old.store world)) }
     ensures breaks { (world : World) → is_inner stmt.now ≡ false →
-        IsOver plan.now.program.now.files
-        (take bench.old.left (map ⟦<Box<dyn Device> as Watched>⟧.seen bench.old.devices.items))
+        IsOver plan.now.program.now.files (⟦<Bench as Shown>⟧.on bench.old)
         table.old.rows world → FiledBreaks result plan.now.program.now.files world
         (λ last. stmt_operations (declared_by plan.now) (seen last stmt.now)
         (memory_in held.old.store world)) bench.new.left
-        (map ⟦<Box<dyn Device> as Watched>⟧.seen bench.new.devices.items) table.new.rows }
+        (⟦<Bench as Shown>⟧.all bench.new) table.new.rows }
     ensures pending { IfOk result (λ done. KeepsPending frames.old frames.new) }
     ensures logged { (world : World) (last : ℕ) → is_inner stmt.now ≡ false →
-        IsOver plan.now.program.now.files
-        (take bench.old.left (map ⟦<Box<dyn Device> as Watched>⟧.seen bench.old.devices.items))
+        IsOver plan.now.program.now.files (⟦<Bench as Shown>⟧.on bench.old)
         table.old.rows world → Keeps result work.old work.new
         (stmt_operations (declared_by plan.now) (seen last stmt.now)
         (memory_in held.old.store world)) }
@@ -121,15 +117,8 @@ pub fn filed<'a>(
     let areas = &plan.areas;
     match stmt {
         Stmt::Opens(openings) => {
-            all_opened(
-                program,
-                areas,
-                store,
-                bench,
-                table,
-                openings.as_slice(),
-                work,
-            )
+            let openings = openings.as_slice();
+            all_opened(program, areas, store, bench, table, openings, work)
         }
         Stmt::Closes(files) => {
             all_shut(program, areas, store, bench, table, files.as_slice(), work)

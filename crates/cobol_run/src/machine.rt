@@ -1,38 +1,41 @@
 //! A program as it runs, step by step.
 
-ghost use Rattle.std.specs.Prelude.{◌≡◌, ◌≢◌, ◌<◌, ◌^◌, [], List, IfOk, IfSome, IsErr, IsTrue, Ok, None, false, length, map, take};
+ghost use Rattle.std.specs.Prelude.{◌≡◌, ◌≢◌, ◌<◌, ◌^◌, [], List, IfOk, IfSome, IsErr, IsTrue, Ok, None, false, length, slice_get};
 ghost use Rattle.file_model.specs.World.{World};
 ghost use Rattle.cob_act.specs.Acting.{is_inner};
 ghost use Rattle.control_flow_theory.specs.semantics.Outcome.{Trace};
 ghost use Rattle.control_flow_theory.specs.semantics.Source as source;
-ghost use Rattle.cobol_theory.specs.cobol_meaning.Acting.{Memory};
+ghost use Rattle.control_flow_theory.specs.semantics.Items.{To, ToEnd, to_one, tried};
+ghost use Rattle.control_flow_theory.specs.language.Language.{Depending};
+ghost use Rattle.cobol_theory.specs.cobol_meaning.Acting.{chooses_in};
+ghost use Rattle.cobol_theory.specs.cobol_meaning.Runs.{doing_in};
 ghost use Rattle.control_flow_theory.specs.language.Control.{control_of, seen};
 ghost use Rattle.control_flow_theory.specs.language.Items.{Item};
 ghost use Rattle.cobol_run.specs.Falling.{StepFalls};
 ghost use Rattle.cobol_run.specs.Filing.{StandsInNone};
 ghost use Rattle.cobol_run.specs.Frames.{heads, last_in, last_of, pending_of, rest_of};
-ghost use Rattle.cobol_run.specs.Machine.{Follows, IsNumbered, ends_by, falls_by, goes_by, performs_by, rest_in, rests_by, state_in, state_with, steps_by};
-ghost use Rattle.cobol_run.specs.Own.{NoFiling, OwnState, StandsAlone};
+ghost use Rattle.cobol_run.specs.Machine.{Follows, IsNumbered, ends_by, falls_by, goes_by, performs_by, rest_in, rests_by, state_in, state_with, step_of, steps_by};
+ghost use Rattle.cobol_run.specs.Own.{NoFiling, OwnState, StandsAlone, jumps};
 ghost use Rattle.cobol_run.specs.Over.{FollowsOver, StandsOver, StepBreaks, step_done, stmt_meant};
 ghost use Rattle.cobol_run.specs.Plain.{PlainState};
 ghost use Rattle.cobol_run.specs.Plan.{declared_by, memory_in};
 ghost use Rattle.cobol_run.specs.Points.{operations_in, stmt_operations};
-ghost use Rattle.cobol_run.specs.NextStep.{KeepsPending, way_seen};
+ghost use Rattle.cobol_run.specs.NextStep.{KeepsPending};
 ghost use Rattle.cobol_run.specs.Events.{IsFiled, Shows};
 
 use crate::filing::{filed, is_filing};
 use crate::frame::Frame;
 use crate::frames::{Head, is_pending, leave, next, push_sentences, take_return};
-use crate::held::{Held, Plan};
-use crate::next_step::{NextStep, turning_way};
-use crate::statement::{performed_once, stmt_way};
+use crate::held::{Held, Plan, names};
+use crate::next_step::turning_way;
+use crate::statement::{jumps, performed_once, stmt_way};
 use cob_act::ActOutcome;
 use cob_act::files::FileWork;
 use cob_base::{NoMemory, Text};
 use cob_store::Stack;
-use cob_tree::{Abend, FlowFault, Paragraph, Stmt};
-use file_model::operations::{FileFault, Watched};
-use file_model::{Bench, Device, FileTable};
+use cob_tree::{Abend, FlowFault, Paragraph, Place, Stmt};
+use file_model::operations::{FileFault, Shown};
+use file_model::{Bench, FileTable};
 
 /// How a run ends by itself.
 #[derive(Clone, Copy)]
@@ -65,6 +68,19 @@ pub struct Machine<'a> {
     pub table: FileTable,
     /// What the step did with files, where that is kept.
     pub work: FileWork,
+}
+
+// What a statement comes to that is none on files.
+fn step_of(done: ActOutcome) -> StepOutcome
+    ensures step { result ≡ step_of done }
+    ensures live { result ≢ StepOutcome.Failed }
+{
+    match done {
+        ActOutcome::Went => StepOutcome::On,
+        ActOutcome::Shown => StepOutcome::Shown,
+        ActOutcome::Chose(_) => StepOutcome::On,
+        ActOutcome::Abended(abend) => StepOutcome::Over(Ending::Abended(abend)),
+    }
 }
 
 // What a statement on files comes to.
@@ -107,6 +123,13 @@ fn clear(shown: &mut Text)
     ensures { shown.new ≡ [] }
 {
     shown.bytes.clear();
+}
+
+// The paragraph with this name, from 0.
+fn named(to: &[u32], name: usize) -> Option<u32>
+    ensures { result ≡ slice_get to.now name }
+{
+    to.get(name).copied()
 }
 
 // The last paragraph of the section that a paragraph is in.
@@ -220,35 +243,81 @@ impl<'a> Machine<'a> {
         Ok(StepOutcome::On)
     }
 
-    // Takes the step that the head of the rest came to.
-    fn go(&mut self, way: NextStep) -> Result<StepOutcome, NoMemory>
-        requires few { IsNumbered self.old.plan }
-        ensures step { IfOk result (λ step. (world : World) (trace : Trace) (rest : List Item)
-            (memory : Memory) → Follows step self.new world trace (goes_by self.old.plan
-            (way_seen (last_of self.old.plan.program.now self.old.paragraph) way
-            self.old.held.shown (memory_in self.old.held.store world) (rest_in self.old))
-            (state_with self.old rest memory trace))) }
+    // Goes to the beginning of a paragraph, without a pending return.
+    fn jump_to(&mut self, number: u32) -> Result<StepOutcome, NoMemory>
+        ensures step { IfOk result (λ step. (world : World) (trace : Trace) (rest : List Item) →
+            Follows step self.new world trace (goes_by self.old.plan
+            (To [] (memory_in self.old.held.store world) number)
+            (state_with self.old rest (memory_in self.old.held.store world) trace))) }
         ensures live { IfOk result (λ step. step ≢ StepOutcome.Failed) }
         ensures plan { self.new.plan ≡ self.old.plan }
         ensures table { self.new.table ≡ self.old.table }
         ensures work { self.new.work ≡ self.old.work }
     {
-        match way {
-            NextStep::On => Ok(StepOutcome::On),
-            NextStep::Shown => Ok(StepOutcome::Shown),
-            NextStep::Halts => Ok(StepOutcome::Over(Ending::Stopped)),
-            NextStep::Abends(abend) => Ok(StepOutcome::Over(Ending::Abended(abend))),
-            NextStep::To(number) => {
-                self.go_to(number)?;
-                Ok(StepOutcome::On)
-            }
-            NextStep::ToSectionEnd => {
-                let paragraphs = self.plan.program.paragraphs.as_slice();
-                let last = section_last(paragraphs, self.paragraph);
-                leave(&mut self.frames)?;
-                self.paragraph = last;
-                Ok(StepOutcome::On)
-            }
+        self.go_to(number)?;
+        Ok(StepOutcome::On)
+    }
+
+    // GO TO DEPENDING: to the name with that number, or on where there is none.
+    fn jump_to_one(&mut self, to: &[u32], on: &Place) -> Result<StepOutcome, NoMemory>
+        ensures step { IfOk result (λ step. (world : World) (trace : Trace) (rest : List Item) →
+            Follows step self.new world trace (goes_by self.old.plan
+            (tried (chooses_in (declared_by self.old.plan) (Depending on.now (length to.now))
+            (memory_in self.old.held.store world)) (λ k. to_one (doing_in
+            (declared_by self.old.plan)) (slice_get to.now k) (rest_in self.old)))
+            (state_with self.old rest (memory_in self.old.held.store world) trace))) }
+        ensures live { IfOk result (λ step. step ≢ StepOutcome.Failed) }
+        ensures plan { self.new.plan ≡ self.old.plan }
+        ensures table { self.new.table ≡ self.old.table }
+        ensures work { self.new.work ≡ self.old.work }
+    {
+        match names(&self.plan, &self.held, to.len(), on) {
+            Err(abend) => Ok(StepOutcome::Over(Ending::Abended(abend))),
+            Ok(name) => match named(to, name) {
+                None => Ok(StepOutcome::On),
+                Some(paragraph) => self.jump_to(paragraph),
+            },
+        }
+    }
+
+    // Goes to the end of the section.
+    fn jump_to_section_end(&mut self) -> Result<StepOutcome, NoMemory>
+        requires few { IsNumbered self.old.plan }
+        ensures step { IfOk result (λ step. (world : World) (trace : Trace) (rest : List Item) →
+            Follows step self.new world trace (goes_by self.old.plan
+            (ToEnd [] (memory_in self.old.held.store world)
+            (last_of self.old.plan.program.now self.old.paragraph))
+            (state_with self.old rest (memory_in self.old.held.store world) trace))) }
+        ensures live { IfOk result (λ step. step ≢ StepOutcome.Failed) }
+        ensures plan { self.new.plan ≡ self.old.plan }
+        ensures table { self.new.table ≡ self.old.table }
+        ensures work { self.new.work ≡ self.old.work }
+    {
+        let last = section_last(self.plan.program.paragraphs.as_slice(), self.paragraph);
+        leave(&mut self.frames)?;
+        self.paragraph = last;
+        Ok(StepOutcome::On)
+    }
+
+    // Does a statement that jumps.
+    fn jump(&mut self, stmt: &Stmt) -> Result<StepOutcome, NoMemory>
+        requires few { IsNumbered self.old.plan }
+        requires jumps { IsTrue (jumps stmt.now) }
+        ensures step { IfOk result (λ step. (world : World) (trace : Trace) (rest : List Item) →
+            Follows step self.new world trace (goes_by self.old.plan
+            (stmt_meant self.old stmt.now world)
+            (state_with self.old rest (memory_in self.old.held.store world) trace))) }
+        ensures live { IfOk result (λ step. step ≢ StepOutcome.Failed) }
+        ensures plan { self.new.plan ≡ self.old.plan }
+        ensures table { self.new.table ≡ self.old.table }
+        ensures work { self.new.work ≡ self.old.work }
+    {
+        match stmt {
+            Stmt::Go(to) => self.jump_to(*to),
+            Stmt::GoDepending { to, on } => self.jump_to_one(to.as_slice(), on),
+            Stmt::ExitSection => self.jump_to_section_end(),
+            Stmt::StopRun => Ok(StepOutcome::Over(Ending::Stopped)),
+            _ => Ok(StepOutcome::On),
         }
     }
 
@@ -256,27 +325,24 @@ impl<'a> Machine<'a> {
     #[tactic(auto, using(crate::proofs::FallLemmas::done_falls))]
     fn file_step(&mut self, bench: &mut Bench, stmt: &'a Stmt) -> Result<StepOutcome, NoMemory>
         ensures over { IfOk result (λ step. (world : World) (trace : Trace) (rest : List Item) →
-            is_inner stmt.now ≡ false → StandsOver self.old (take bench.old.left
-            (map ⟦<Box<dyn Device> as Watched>⟧.seen bench.old.devices.items)) world →
-            FollowsOver step self.new (take bench.new.left
-            (map ⟦<Box<dyn Device> as Watched>⟧.seen bench.new.devices.items)) world trace
+            is_inner stmt.now ≡ false → StandsOver self.old
+            (⟦<Bench as Shown>⟧.on bench.old) world →
+            FollowsOver step self.new (⟦<Bench as Shown>⟧.on bench.new) world trace
             (goes_by self.old.plan (stmt_meant self.old stmt.now world)
             (state_with self.old rest (memory_in self.old.held.store world) trace))) }
         ensures falls { StepFalls result self.old.plan.program.now.files
-            bench.old.left bench.new.left
-            (map ⟦<Box<dyn Device> as Watched>⟧.seen bench.old.devices.items)
-            (map ⟦<Box<dyn Device> as Watched>⟧.seen bench.new.devices.items)
-            self.new.table.rows }
+            bench.old.left bench.new.left (⟦<Bench as Shown>⟧.all bench.old)
+            (⟦<Bench as Shown>⟧.all bench.new) self.new.table.rows }
         ensures breaks { (world : World) → is_inner stmt.now ≡ false → StandsOver self.old
-            (take bench.old.left (map ⟦<Box<dyn Device> as Watched>⟧.seen bench.old.devices.items))
+            (⟦<Bench as Shown>⟧.on bench.old)
             world → StepBreaks result self.new world (stmt_operations (declared_by self.old.plan)
             (seen (last_of self.old.plan.program.now self.old.paragraph) stmt.now)
             (memory_in self.old.held.store world)) bench.new.left
-            (map ⟦<Box<dyn Device> as Watched>⟧.seen bench.new.devices.items) }
+            (⟦<Bench as Shown>⟧.all bench.new) }
         ensures plan { self.new.plan ≡ self.old.plan }
         ensures events { IfOk result (λ step. (world : World) (trace : Trace) (rest : List Item) →
-            is_inner stmt.now ≡ false → IsFiled stmt.now → StandsOver self.old (take bench.old.left
-            (map ⟦<Box<dyn Device> as Watched>⟧.seen bench.old.devices.items)) world →
+            is_inner stmt.now ≡ false → IsFiled stmt.now → StandsOver self.old
+            (⟦<Bench as Shown>⟧.on bench.old) world →
             IsTrue self.old.work.keeps → self.old.work.done.items ≡ [] →
             Shows step self.new trace (goes_by self.old.plan (stmt_meant self.old stmt.now world)
             (state_with self.old rest (memory_in self.old.held.store world) trace))) }
@@ -317,14 +383,23 @@ impl<'a> Machine<'a> {
                 if let Some(range) = performed_once(stmt) {
                     return self.perform(range.entry, range.exit);
                 }
-                let way = stmt_way(&self.plan, &mut self.frames, &mut self.held, stmt)?;
-                self.go(way)
+                if jumps(stmt) {
+                    return self.jump(stmt);
+                }
+                let done = stmt_way(&self.plan, &mut self.frames, &mut self.held, stmt)?;
+                Ok(step_of(done))
             }
             Head::Enter { entry, exit } => self.perform(entry, exit),
             Head::SentenceEnd => Ok(StepOutcome::On),
             Head::Turn(turning, body) => {
-                let way = turning_way(&self.plan, &mut self.frames, &mut self.held, turning, body)?;
-                self.go(way)
+                let done = turning_way(
+                    &self.plan,
+                    &mut self.frames,
+                    &mut self.held,
+                    turning,
+                    body,
+                )?;
+                Ok(step_of(done))
             }
         }
     }
@@ -340,22 +415,18 @@ impl<'a> Machine<'a> {
 
         // over devices whose files are known
         ensures over { IfOk result (λ step. (world : World) (trace : Trace) →
-            OwnState (state_in self.old world trace) → StandsOver self.old (take bench.old.left
-            (map ⟦<Box<dyn Device> as Watched>⟧.seen bench.old.devices.items)) world →
-            FollowsOver step self.new (take bench.new.left
-            (map ⟦<Box<dyn Device> as Watched>⟧.seen bench.new.devices.items)) world trace
+            OwnState (state_in self.old world trace) → StandsOver self.old
+            (⟦<Bench as Shown>⟧.on bench.old) world →
+            FollowsOver step self.new (⟦<Bench as Shown>⟧.on bench.new) world trace
             (steps_by self.old.plan (state_in self.old world trace))) }
         ensures falls { StepFalls result self.old.plan.program.now.files
-            bench.old.left bench.new.left
-            (map ⟦<Box<dyn Device> as Watched>⟧.seen bench.old.devices.items)
-            (map ⟦<Box<dyn Device> as Watched>⟧.seen bench.new.devices.items)
-            self.new.table.rows }
+            bench.old.left bench.new.left (⟦<Bench as Shown>⟧.all bench.old)
+            (⟦<Bench as Shown>⟧.all bench.new) self.new.table.rows }
         ensures breaks { (world : World) (trace : Trace) →
             OwnState (state_in self.old world trace) → StandsOver self.old
-            (take bench.old.left (map ⟦<Box<dyn Device> as Watched>⟧.seen bench.old.devices.items))
+            (⟦<Bench as Shown>⟧.on bench.old)
             world → StepBreaks result self.new world (operations_in (declared_by self.old.plan)
-            (state_in self.old world trace)) bench.new.left
-            (map ⟦<Box<dyn Device> as Watched>⟧.seen bench.new.devices.items) }
+            (state_in self.old world trace)) bench.new.left (⟦<Bench as Shown>⟧.all bench.new) }
         ensures plan { self.new.plan ≡ self.old.plan }
 
         // without statements on files the devices aren't used
@@ -364,8 +435,8 @@ impl<'a> Machine<'a> {
 
         // over devices whose files are known it shows these events
         ensures events { IfOk result (λ step. (world : World) (trace : Trace) →
-            OwnState (state_in self.old world trace) → StandsOver self.old (take bench.old.left
-            (map ⟦<Box<dyn Device> as Watched>⟧.seen bench.old.devices.items)) world →
+            OwnState (state_in self.old world trace) → StandsOver self.old
+            (⟦<Bench as Shown>⟧.on bench.old) world →
             IsTrue self.old.work.keeps → Shows step self.new trace
             (steps_by self.old.plan (state_in self.old world trace))) }
         ensures keeps { self.new.work.keeps ≡ self.old.work.keeps }

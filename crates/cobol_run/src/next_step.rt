@@ -1,66 +1,38 @@
 //! What the head of the rest comes to.
 
-ghost use Rattle.std.specs.Prelude.{◌≡◌, ◌∷◌, ◌==◌, [], List, ℕ, IfOk, IsTrue, if◌then◌else◌, is_some, length, map, slice_get};
+ghost use Rattle.std.specs.Prelude.{◌≡◌, ◌∷◌, ◌==◌, [], List, ℕ, IfOk, IsTrue, if◌then◌else◌, is_some, map};
 ghost use Rattle.file_model.specs.World.{World};
 ghost use Rattle.cob_tree.specs.declared.stmt.Stmt.TheVariants.{Move};
 ghost use Rattle.cob_tree.specs.declared.stmt.When.{out-When};
 ghost use Rattle.cob_act.specs.Acting.{is_inner};
-ghost use Rattle.control_flow_theory.specs.semantics.Items.{loop_begins, to_one, tried, turn_way, turns};
+ghost use Rattle.control_flow_theory.specs.semantics.Items.{loop_begins, tried, turn_way, turns};
 ghost use Rattle.cobol_theory.specs.cobol_meaning.Acting.{chooses_in, does_to, tests_in};
 ghost use Rattle.cobol_theory.specs.cobol_meaning.Runs.{doing_in};
 ghost use Rattle.control_flow_theory.specs.language.Control.{seen_stmts, test_of};
 ghost use Rattle.control_flow_theory.specs.language.Items.{Counted, Item, before};
-ghost use Rattle.control_flow_theory.specs.language.Language.{Arith, Depending, Evaluate, Times, Until};
+ghost use Rattle.control_flow_theory.specs.language.Language.{Arith, Evaluate, Times, Until};
 ghost use Rattle.cobol_run.specs.Frames.{body_seen, rest_of, turning_seen};
-ghost use Rattle.cobol_run.specs.Plan.{declared_by, did, memory_in};
+ghost use Rattle.cobol_run.specs.Plan.{declared_by, memory_in};
 ghost use Rattle.cobol_run.specs.NextStep.{KeepsPending, Leads, arm_at, either, loop_meant, on, steps_after_meant, steps_begun, steps_meant, stmts_or_none, turn_meant, way_seen};
 
 use crate::frame::{Body, Frame, LoopProgress};
 use crate::frames::{push_body, push_stmts, push_turn, turn_on};
-use crate::held::{Held, Plan, acts, augments, calculates, counts, evaluates, names, sets, tests};
+use crate::held::{Held, Plan, acts, augments, calculates, counts, evaluates, sets, tests};
 use cob_act::ActOutcome;
 use cob_base::{Items, NoMemory};
 use cob_store::Stack;
-use cob_tree::{Abend, Arms, Calc, Cond, Control, Operand, Place, Stmt, Subject, Target, When};
-
-/// What the head of the rest comes to.
-#[derive(Clone, Copy)]
-pub enum NextStep {
-    On,
-    /// It goes on, and showed bytes.
-    Shown,
-    Halts,
-    Abends(Abend),
-    To(u32),
-    /// It goes to the end of its section.
-    ToSectionEnd,
-}
-
-fn way_of(done: ActOutcome) -> NextStep
-    ensures { (last : ℕ) (world : World) (store : List (List ℕ)) (shown : List ℕ)
-        (rest : List Item) →
-        way_seen last result shown (memory_in store world) rest
-        ≡ tried (did done shown (memory_in store world)) (λ u. on rest) }
-{
-    match done {
-        ActOutcome::Went => NextStep::On,
-        ActOutcome::Shown => NextStep::Shown,
-        ActOutcome::Chose(_) => NextStep::On,
-        ActOutcome::Abended(abend) => NextStep::Abends(abend),
-    }
-}
+use cob_tree::{Arms, Calc, Cond, Control, Operand, Place, Stmt, Subject, Target, When};
 
 /// Does a statement that acts and needs no device.
-pub fn simple_way(plan: &Plan, held: &mut Held, stmt: &Stmt) -> Result<NextStep, NoMemory>
+pub fn simple_way(plan: &Plan, held: &mut Held, stmt: &Stmt) -> Result<ActOutcome, NoMemory>
     requires inner { IsTrue (is_inner stmt.now) }
     requires empty { held.old.shown ≡ [] }
-    ensures { IfOk result (λ way. (last : ℕ) (world : World) (rest : List Item) →
-        way_seen last way held.new.shown (memory_in held.new.store world) rest
+    ensures { IfOk result (λ way. (world : World) (rest : List Item) →
+        way_seen way held.new.shown (memory_in held.new.store world) rest
         ≡ tried (does_to (declared_by plan.now) stmt.now (memory_in held.old.store world))
         (λ u. on rest)) }
 {
-    let done = acts(plan, held, stmt)?;
-    Ok(way_of(done))
+    acts(plan, held, stmt)
 }
 
 /// IF: its chosen statements are to be done first.
@@ -71,17 +43,17 @@ pub fn if_way<'a>(
     cond: &Cond,
     yes: &'a [Stmt],
     no: &'a [Stmt],
-) -> Result<NextStep, NoMemory>
+) -> Result<ActOutcome, NoMemory>
     ensures way { IfOk result (λ way. Leads way frames.old frames.new held.now held.now
         (λ last rest memory. tried (tests_in (declared_by plan.now) cond.now memory)
         (λ met. on (before (seen_stmts last (if met then yes.now else no.now)) rest)))) }
     ensures pending { IfOk result (λ way. KeepsPending frames.old frames.new) }
 {
     match tests(plan, held, cond) {
-        Err(abend) => Ok(NextStep::Abends(abend)),
+        Err(abend) => Ok(ActOutcome::Abended(abend)),
         Ok(met) => {
             push_stmts(frames, if met { yes } else { no })?;
-            Ok(NextStep::On)
+            Ok(ActOutcome::Went)
         }
     }
 }
@@ -116,7 +88,7 @@ pub fn evaluate_way<'a>(
     subject: &Subject,
     whens: &'a [When],
     other: &'a Option<Items<Stmt>>,
-) -> Result<NextStep, NoMemory>
+) -> Result<ActOutcome, NoMemory>
     ensures way { IfOk result (λ way. Leads way frames.old frames.new held.now held.now
         (λ last rest memory. tried (chooses_in (declared_by plan.now)
         (Evaluate subject.now (map (λ when. (out-When when).tests) whens.now) (is_some other.now))
@@ -124,10 +96,10 @@ pub fn evaluate_way<'a>(
     ensures pending { IfOk result (λ way. KeepsPending frames.old frames.new) }
 {
     match evaluates(plan, held, subject, whens) {
-        Err(abend) => Ok(NextStep::Abends(abend)),
+        Err(abend) => Ok(ActOutcome::Abended(abend)),
         Ok(arm) => {
             push_stmts(frames, arm_at(whens, other, arm))?;
-            Ok(NextStep::On)
+            Ok(ActOutcome::Went)
         }
     }
 }
@@ -141,7 +113,7 @@ pub fn arith_way<'a>(
     calc: &Calc,
     into: &[Target],
     arms: &'a Arms,
-) -> Result<NextStep, NoMemory>
+) -> Result<ActOutcome, NoMemory>
     ensures way { IfOk result (λ way. Leads way frames.old frames.new held.old held.new
         (λ last rest memory. tried (chooses_in (declared_by plan.now)
         (Arith calc.now into.now) memory)
@@ -149,32 +121,15 @@ pub fn arith_way<'a>(
     ensures pending { IfOk result (λ way. KeepsPending frames.old frames.new) }
 {
     match calculates(plan, held, calc, into) {
-        Err(abend) => Ok(NextStep::Abends(abend)),
+        Err(abend) => Ok(ActOutcome::Abended(abend)),
         Ok(true) => {
             push_stmts(frames, stmts_or_none(&arms.first))?;
-            Ok(NextStep::On)
+            Ok(ActOutcome::Went)
         }
         Ok(false) => {
             push_stmts(frames, stmts_or_none(&arms.second))?;
-            Ok(NextStep::On)
+            Ok(ActOutcome::Went)
         }
-    }
-}
-
-/// GO TO DEPENDING: to the name with that number, or on where there is none.
-pub fn go_depending_way(plan: &Plan, held: &Held, to: &[u32], on: &Place) -> NextStep
-    ensures { (world : World) (last : ℕ) (rest : List Item) →
-        way_seen last result held.now.shown (memory_in held.now.store world) rest
-        ≡ tried (chooses_in (declared_by plan.now) (Depending on.now (length to.now))
-        (memory_in held.now.store world)) (λ k. to_one (doing_in (declared_by plan.now))
-        (slice_get to.now k) rest) }
-{
-    match names(plan, held, to.len(), on) {
-        Err(abend) => NextStep::Abends(abend),
-        Ok(name) => match to.get(name) {
-            None => NextStep::On,
-            Some(paragraph) => NextStep::To(*paragraph),
-        },
     }
 }
 
@@ -185,17 +140,17 @@ pub fn times_way<'a>(
     held: &Held,
     amount: &Operand,
     body: Body<'a>,
-) -> Result<NextStep, NoMemory>
+) -> Result<ActOutcome, NoMemory>
     ensures way { IfOk result (λ way. Leads way frames.old frames.new held.now held.now
         (λ last rest memory. loop_begins (doing_in (declared_by plan.now)) (Times amount.now)
         (body_seen last body.entry) rest memory)) }
     ensures pending { IfOk result (λ way. KeepsPending frames.old frames.new) }
 {
     match counts(plan, held, amount) {
-        Err(abend) => Ok(NextStep::Abends(abend)),
+        Err(abend) => Ok(ActOutcome::Abended(abend)),
         Ok(turns) => {
             push_turn(frames, LoopProgress::Counted(turns), body)?;
-            Ok(NextStep::On)
+            Ok(ActOutcome::Went)
         }
     }
 }
@@ -208,7 +163,7 @@ pub fn until_way<'a>(
     after: bool,
     cond: &'a Cond,
     body: Body<'a>,
-) -> Result<NextStep, NoMemory>
+) -> Result<ActOutcome, NoMemory>
     ensures way { IfOk result (λ way. Leads way frames.old frames.new held.now held.now
         (λ last rest memory. loop_begins (doing_in (declared_by plan.now))
         (Until after (test_of cond.now)) (body_seen last body.entry) rest memory)) }
@@ -220,7 +175,7 @@ pub fn until_way<'a>(
     } else {
         push_turn(frames, turning, body)?;
     }
-    Ok(NextStep::On)
+    Ok(ActOutcome::Went)
 }
 
 /// The data of a turn of VARYING.
@@ -272,7 +227,7 @@ pub fn varying_way<'a>(
     held: &mut Held,
     varied: Varied<'a>,
     body: Body<'a>,
-) -> Result<NextStep, NoMemory>
+) -> Result<ActOutcome, NoMemory>
     ensures way { IfOk result (λ way. Leads way frames.old frames.new held.old held.new
         (λ last rest memory. tried (does_to (declared_by plan.now)
         (Move varied.entry.from.now (varied.entry.stepped.item.now ∷ [])) memory)
@@ -282,10 +237,10 @@ pub fn varying_way<'a>(
     ensures pending { IfOk result (λ way. KeepsPending frames.old frames.new) }
 {
     match sets(plan, held, varied.stepped.item, varied.from)? {
-        Err(abend) => Ok(NextStep::Abends(abend)),
+        Err(abend) => Ok(ActOutcome::Abended(abend)),
         Ok(()) => {
             begin_steps(frames, varied.after, varied.stepped, body)?;
-            Ok(NextStep::On)
+            Ok(ActOutcome::Went)
         }
     }
 }
@@ -298,7 +253,7 @@ fn test_turn<'a>(
     until: &Cond,
     turning: LoopProgress<'a>,
     body: Body<'a>,
-) -> Result<NextStep, NoMemory>
+) -> Result<ActOutcome, NoMemory>
     ensures way { IfOk result (λ way. Leads way frames.old frames.new held.now held.now
         (λ last rest memory. tried (tests_in (declared_by plan.now) until.now memory) (λ ended.
         on (turns (doing_in (declared_by plan.now)) ended (turning_seen turning.entry)
@@ -306,11 +261,11 @@ fn test_turn<'a>(
     ensures pending { IfOk result (λ way. KeepsPending frames.old frames.new) }
 {
     match tests(plan, held, until) {
-        Err(abend) => Ok(NextStep::Abends(abend)),
-        Ok(true) => Ok(NextStep::On),
+        Err(abend) => Ok(ActOutcome::Abended(abend)),
+        Ok(true) => Ok(ActOutcome::Went),
         Ok(false) => {
             turn_on(frames, turning, body)?;
-            Ok(NextStep::On)
+            Ok(ActOutcome::Went)
         }
     }
 }
@@ -321,7 +276,7 @@ fn counted_way<'a>(
     held: &Held,
     turns: u128,
     body: Body<'a>,
-) -> Result<NextStep, NoMemory>
+) -> Result<ActOutcome, NoMemory>
     ensures way { IfOk result (λ way. Leads way frames.old frames.new held.now held.now
         (λ last rest memory. turn_way (doing_in (declared_by plan.now)) (Counted turns)
         (body_seen last body.entry) rest memory)) }
@@ -330,7 +285,7 @@ fn counted_way<'a>(
     if turns > 0 {
         turn_on(frames, LoopProgress::Counted(turns - 1), body)?;
     }
-    Ok(NextStep::On)
+    Ok(ActOutcome::Went)
 }
 
 // VARYING tested before: each arrival but the first begins with the augmenting ADD.
@@ -341,7 +296,7 @@ fn steps_way<'a>(
     reached: bool,
     stepped: Stepped<'a>,
     body: Body<'a>,
-) -> Result<NextStep, NoMemory>
+) -> Result<ActOutcome, NoMemory>
     ensures way { IfOk result (λ way. Leads way frames.old frames.new held.old held.new
         (λ last rest memory. steps_meant (declared_by plan.now) reached stepped.entry.item.now
         stepped.entry.by.now stepped.entry.until.now (body_seen last body.entry) rest memory)) }
@@ -349,7 +304,7 @@ fn steps_way<'a>(
 {
     if reached {
         if let Err(abend) = augments(plan, held, stepped.item, stepped.by) {
-            return Ok(NextStep::Abends(abend));
+            return Ok(ActOutcome::Abended(abend));
         }
     }
     let turning = LoopProgress::Steps {
@@ -368,19 +323,19 @@ fn steps_after_way<'a>(
     held: &mut Held,
     stepped: Stepped<'a>,
     body: Body<'a>,
-) -> Result<NextStep, NoMemory>
+) -> Result<ActOutcome, NoMemory>
     ensures way { IfOk result (λ way. Leads way frames.old frames.new held.old held.new
         (λ last rest memory. steps_after_meant (declared_by plan.now) stepped.entry.item.now
         stepped.entry.by.now stepped.entry.until.now (body_seen last body.entry) rest memory)) }
     ensures pending { IfOk result (λ way. KeepsPending frames.old frames.new) }
 {
     match tests(plan, held, stepped.until) {
-        Err(abend) => return Ok(NextStep::Abends(abend)),
-        Ok(true) => return Ok(NextStep::On),
+        Err(abend) => return Ok(ActOutcome::Abended(abend)),
+        Ok(true) => return Ok(ActOutcome::Went),
         Ok(false) => {}
     }
     if let Err(abend) = augments(plan, held, stepped.item, stepped.by) {
-        return Ok(NextStep::Abends(abend));
+        return Ok(ActOutcome::Abended(abend));
     }
     let turning = LoopProgress::StepsAfter {
         item: stepped.item,
@@ -388,7 +343,7 @@ fn steps_after_way<'a>(
         until: stepped.until,
     };
     turn_on(frames, turning, body)?;
-    Ok(NextStep::On)
+    Ok(ActOutcome::Went)
 }
 
 /// Does what is left of a loop: one more turn, or none.
@@ -398,7 +353,7 @@ pub fn turning_way<'a>(
     held: &mut Held,
     turning: LoopProgress<'a>,
     body: Body<'a>,
-) -> Result<NextStep, NoMemory>
+) -> Result<ActOutcome, NoMemory>
     ensures way { IfOk result (λ way. Leads way frames.old frames.new held.old held.new
         (λ last rest memory. turn_meant (declared_by plan.now) turning.entry
         (body_seen last body.entry) rest memory)) }
@@ -430,7 +385,7 @@ pub fn control_way<'a>(
     held: &mut Held,
     control: &'a Control,
     body: Body<'a>,
-) -> Result<NextStep, NoMemory>
+) -> Result<ActOutcome, NoMemory>
     ensures way { IfOk result (λ way. Leads way frames.old frames.new held.old held.new
         (λ last rest memory. loop_meant (declared_by plan.now) control.now
         (body_seen last body.entry) rest memory)) }
@@ -439,7 +394,7 @@ pub fn control_way<'a>(
     match control {
         Control::Once => {
             push_body(frames, body)?;
-            Ok(NextStep::On)
+            Ok(ActOutcome::Went)
         }
         Control::Times(amount) => times_way(plan, frames, held, amount, body),
         Control::Until { after, cond } => until_way(plan, frames, held, *after, cond, body),

@@ -1,6 +1,6 @@
 //! A whole run.
 
-ghost use Rattle.std.specs.Prelude.{◌≡◌, ◌≢◌, ◌<◌, ◌≤◌, vec_capacity, vec_len, ◌^◌, [], ℕ, List, IfOk, IfSome, false, length, map, replicate, slice_get, take};
+ghost use Rattle.std.specs.Prelude.{◌≡◌, ◌≢◌, ◌<◌, ◌≤◌, vec_capacity, vec_len, ◌^◌, [], ℕ, List, IfOk, IfSome, false, length, replicate, slice_get};
 ghost use Rattle.std.specs.declared.option.Option.{Option};
 ghost use Rattle.cob_tree.specs.declared.program.Program.{Program};
 ghost use Rattle.cob_base.specs.Faults.{Rose};
@@ -27,7 +27,7 @@ use cob_base::giving::give_all;
 use cob_base::{NoMemory, Sink, Text};
 use cob_store::{Stack, Store, layout};
 use cob_tree::Program;
-use file_model::operations::Watched;
+use file_model::operations::{Shown, Watched};
 use file_model::{Bench, Device, FileTable};
 use std::alloc::Global;
 use std::mem;
@@ -113,20 +113,17 @@ fn make_turn<K: Sink>(machine: &mut Machine, bench: &mut Bench, out: &mut K) -> 
 
     // over devices whose files are known
     ensures over { (program : Program) (files : Files) (done : ℕ) (held : Option (List ℕ))
-        (count : ℕ) → IsOwn program → SoFarOver program files machine.old (take bench.old.left
-        (map ⟦<Box<dyn Device> as Watched>⟧.seen bench.old.devices.items)) done
+        (count : ℕ) → IsOwn program → SoFarOver program files machine.old
+        (⟦<Bench as Shown>⟧.on bench.old) done
         (since held count (K.held out.old) (K.faults out.old)) →
-        TurnsOver program files machine.new bench.new.left
-        (map ⟦<Box<dyn Device> as Watched>⟧.seen bench.new.devices.items) done
+        TurnsOver program files machine.new bench.new.left (⟦<Bench as Shown>⟧.all bench.new) done
         (since held count (K.held out.new) (K.faults out.new)) result }
     ensures cause { result ≡ Turned.WriteFault → Rose (K.faults out.old) (K.faults out.new) }
     ensures later { K.faults out.old ≤ K.faults out.new }
     ensures plan { machine.new.plan ≡ machine.old.plan }
     ensures falls { TurnFalls result machine.old.plan.program.now.files
-        bench.old.left bench.new.left
-        (map ⟦<Box<dyn Device> as Watched>⟧.seen bench.old.devices.items)
-        (map ⟦<Box<dyn Device> as Watched>⟧.seen bench.new.devices.items)
-        machine.new.table.rows }
+        bench.old.left bench.new.left (⟦<Bench as Shown>⟧.all bench.old)
+        (⟦<Bench as Shown>⟧.all bench.new) machine.new.table.rows }
 
     // without statements on files the devices aren't used
     ensures kept { (program : Program) (done : ℕ) (sink : SinkCall) →
@@ -160,7 +157,7 @@ fn device_name(device: &Box<dyn Device>) -> &[u8]
 /// Makes room for the name of each device, so that a device fault needs no memory.
 pub fn name_room(alloc: Global, bench: &Bench) -> Result<Vec<u8>, NoMemory>
     ensures { IfOk result (λ room. NamesFit (vec_capacity room)
-        (map ⟦<Box<dyn Device> as Watched>⟧.seen bench.now.devices.items)) }
+        (⟦<Bench as Shown>⟧.all bench.now)) }
 {
     let mut room: Vec<u8> = Vec::new(alloc);
     for at in 0..bench.devices.len() {
@@ -173,8 +170,7 @@ pub fn name_room(alloc: Global, bench: &Bench) -> Result<Vec<u8>, NoMemory>
 fn add_room(room: &mut Vec<u8>, bench: &Bench, at: usize) -> Result<(), NoMemory>
     requires { at < vec_len bench.now.devices }
     ensures more { vec_capacity room.old ≤ vec_capacity room.new }
-    ensures fits { IfOk result (λ u. IfSome
-        (slice_get (map ⟦<Box<dyn Device> as Watched>⟧.seen bench.now.devices.items) at)
+    ensures fits { IfOk result (λ u. IfSome (slice_get (⟦<Bench as Shown>⟧.all bench.now) at)
         (λ device. length device.name ≤ vec_capacity room.new)) }
 {
     room.clear();
@@ -186,7 +182,7 @@ fn add_room(room: &mut Vec<u8>, bench: &Bench, at: usize) -> Result<(), NoMemory
 pub fn device_fault(alloc: Global, room: &mut Vec<u8>, bench: &Bench, at: usize) -> Ran
     ensures live { result ≢ Ran.WriteFault }
     ensures named { NamesDevice (vec_capacity room.old) result
-        (slice_get (map ⟦<Box<dyn Device> as Watched>⟧.seen bench.now.devices.items) at) }
+        (slice_get (⟦<Bench as Shown>⟧.all bench.now) at) }
 {
     if at >= bench.devices.len() {
         return Ran::NoMemory;
@@ -208,8 +204,7 @@ fn run_on<K: Sink>(
     out: &mut K,
     steps: u64,
 ) -> Ran
-    requires { NamesFit (vec_capacity room.old)
-        (map ⟦<Box<dyn Device> as Watched>⟧.seen bench.old.devices.items) }
+    requires { NamesFit (vec_capacity room.old) (⟦<Bench as Shown>⟧.all bench.old) }
     ensures run { (program : Program) (files : Files) →
         SoFar program machine.old 0 (since (K.held out.old) (K.faults out.old)
         (K.held out.old) (K.faults out.old)) → IsPlain program → RunsAs program files steps
@@ -221,8 +216,7 @@ fn run_on<K: Sink>(
         (bench.new ≡ bench.old) × (machine.new.table ≡ machine.old.table) }
     ensures ends { StepsEnd machine.old machine.new steps
         (sink_call K.held K.faults out.old out.new) bench.old.left bench.new.left
-        (map ⟦<Box<dyn Device> as Watched>⟧.seen bench.old.devices.items)
-        (map ⟦<Box<dyn Device> as Watched>⟧.seen bench.new.devices.items) result }
+        (⟦<Bench as Shown>⟧.all bench.old) (⟦<Bench as Shown>⟧.all bench.new) result }
 
     // a device that failed isn't reported as out of memory
     ensures memory { result ≡ Ran.NoMemory → bench.new.left ≡ bench.old.left }
@@ -273,14 +267,13 @@ fn close_files(
     ensures ends { (start : Machine) (steps : ℕ) (sink : SinkCall) (left : ℕ) (old : List Seen) →
         machine.old.plan ≡ start.plan → length start.plan.program.now.files < 2 ^ 32 →
         StepsEnd start machine.old steps sink left bench.old.left old
-        (map ⟦<Box<dyn Device> as Watched>⟧.seen bench.old.devices.items) ran →
+        (⟦<Bench as Shown>⟧.all bench.old) ran →
         FilesEnd start steps sink left bench.new.left old
-        (map ⟦<Box<dyn Device> as Watched>⟧.seen bench.new.devices.items) result }
+        (⟦<Bench as Shown>⟧.all bench.new) result }
 
     // a device that failed isn't reported as out of memory
     ensures memory { length machine.old.plan.program.now.files < 2 ^ 32 →
-        NamesFit (vec_capacity room.old)
-        (map ⟦<Box<dyn Device> as Watched>⟧.seen bench.old.devices.items) →
+        NamesFit (vec_capacity room.old) (⟦<Bench as Shown>⟧.all bench.old) →
         result ≡ Ran.NoMemory → ran ≡ Ran.NoMemory }
 {
     if !some_open(&machine.table) {
@@ -312,13 +305,11 @@ pub fn run<K: Sink>(
     // what is left of the bench; where the files of the devices that the program uses are known,
     // they are as its run leaves them, and none that it opened is open
     ensures ends { RunEnds program.now steps (sink_call K.held K.faults out.old out.new)
-        bench.old.left bench.new.left
-        (map ⟦<Box<dyn Device> as Watched>⟧.seen bench.old.devices.items)
-        (map ⟦<Box<dyn Device> as Watched>⟧.seen bench.new.devices.items) result }
+        bench.old.left bench.new.left (⟦<Bench as Shown>⟧.all bench.old)
+        (⟦<Bench as Shown>⟧.all bench.new) result }
     ensures cause { result ≡ Ran.WriteFault → Rose (K.faults out.old) (K.faults out.new) }
-    ensures falls { RunFalls result bench.old.left bench.new.left
-        (map ⟦<Box<dyn Device> as Watched>⟧.seen bench.old.devices.items)
-        (map ⟦<Box<dyn Device> as Watched>⟧.seen bench.new.devices.items) }
+    ensures falls { RunFalls result bench.old.left bench.new.left (⟦<Bench as Shown>⟧.all bench.old)
+        (⟦<Bench as Shown>⟧.all bench.new) }
 
     // without statements on files the devices aren't used
     ensures kept { IsPlain program.now → bench.new ≡ bench.old }

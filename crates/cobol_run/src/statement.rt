@@ -6,7 +6,7 @@ ghost use Rattle.cobol_theory.specs.cobol_meaning.Runs.{doing_in};
 ghost use Rattle.control_flow_theory.specs.language.Control.{seen};
 ghost use Rattle.control_flow_theory.specs.language.Items.{Do};
 ghost use Rattle.control_flow_theory.specs.language.Language.{Perform};
-ghost use Rattle.cobol_run.specs.Own.{ActsAlone};
+ghost use Rattle.cobol_run.specs.Own.{ActsAlone, jumps};
 ghost use Rattle.cobol_run.specs.Plain.{once_of};
 ghost use Rattle.cobol_run.specs.Plan.{declared_by};
 ghost use Rattle.cobol_run.specs.NextStep.{KeepsPending, LeadsWhere};
@@ -14,10 +14,8 @@ ghost use Rattle.cobol_run.specs.NextStep.{KeepsPending, LeadsWhere};
 use crate::frame::{Body, Frame};
 use crate::frames::{leave, leave_loop, leave_sentence};
 use crate::held::{Held, Plan};
-use crate::next_step::{
-    NextStep, arith_way, control_way, evaluate_way, go_depending_way, if_way, simple_way,
-};
-use cob_act::has_arms;
+use crate::next_step::{arith_way, control_way, evaluate_way, if_way, simple_way};
+use cob_act::{ActOutcome, has_arms};
 use cob_base::NoMemory;
 use cob_store::Stack;
 use cob_tree::{Control, Stmt};
@@ -53,13 +51,26 @@ pub fn performed_once(stmt: &Stmt) -> Option<Entered>
     }
 }
 
-/// What a statement other than a PERFORM without a control comes to.
+/// Whether a statement goes to another paragraph, without a pending return, or stops the run.
+pub fn jumps(stmt: &Stmt) -> bool
+    ensures { result ≡ jumps stmt.now }
+{
+    match stmt {
+        Stmt::Go(_) => true,
+        Stmt::GoDepending { .. } => true,
+        Stmt::ExitSection => true,
+        Stmt::StopRun => true,
+        _ => false,
+    }
+}
+
+/// Does a statement that neither jumps nor is a PERFORM without a control.
 pub fn stmt_way<'a>(
     plan: &Plan,
     frames: &mut Stack<Frame<'a>>,
     held: &mut Held,
     stmt: &'a Stmt,
-) -> Result<NextStep, NoMemory>
+) -> Result<ActOutcome, NoMemory>
     requires empty { held.old.shown ≡ [] }
     ensures way { IfOk result (λ way. LeadsWhere (ActsAlone stmt.now) way
         frames.old frames.new held.old held.new
@@ -100,29 +111,30 @@ pub fn stmt_way<'a>(
             };
             control_way(plan, frames, held, control, body)
         }
-        Stmt::Go(to) => Ok(NextStep::To(*to)),
-        Stmt::GoDepending { to, on } => Ok(go_depending_way(plan, held, to.as_slice(), on)),
         Stmt::NextSentence => {
             leave_sentence(frames)?;
-            Ok(NextStep::On)
+            Ok(ActOutcome::Went)
         }
-        Stmt::StopRun => Ok(NextStep::Halts),
         Stmt::Exit => simple_way(plan, held, stmt),
         Stmt::ExitParagraph => {
             leave(frames)?;
-            Ok(NextStep::On)
+            Ok(ActOutcome::Went)
         }
-        Stmt::ExitSection => Ok(NextStep::ToSectionEnd),
         Stmt::ExitPerform { cycle } => {
             leave_loop(frames, *cycle)?;
-            Ok(NextStep::On)
+            Ok(ActOutcome::Went)
         }
         Stmt::Continue => simple_way(plan, held, stmt),
+        // Jumps are made by the machine.
+        Stmt::Go(_) => Ok(ActOutcome::Went),
+        Stmt::GoDepending { .. } => Ok(ActOutcome::Went),
+        Stmt::ExitSection => Ok(ActOutcome::Went),
+        Stmt::StopRun => Ok(ActOutcome::Went),
         // Statements on files are done by `filing`, over a bench.
-        Stmt::Opens(_) => Ok(NextStep::On),
-        Stmt::Closes(_) => Ok(NextStep::On),
-        Stmt::Read { .. } => Ok(NextStep::On),
-        Stmt::Write { .. } => Ok(NextStep::On),
-        Stmt::Rewrite { .. } => Ok(NextStep::On),
+        Stmt::Opens(_) => Ok(ActOutcome::Went),
+        Stmt::Closes(_) => Ok(ActOutcome::Went),
+        Stmt::Read { .. } => Ok(ActOutcome::Went),
+        Stmt::Write { .. } => Ok(ActOutcome::Went),
+        Stmt::Rewrite { .. } => Ok(ActOutcome::Went),
     }
 }

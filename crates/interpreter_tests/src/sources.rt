@@ -2,9 +2,10 @@
 
 use cob_base::MemSink;
 use cob_tree::{Abend, FlowFault};
+use cobol_read::ReadRefusal;
 use cobol_run::{Ending, Ran};
 use file_model::Bench;
-use restructure_core::run::{Came, run_source};
+use restructure_core::run::{SourceRun, run_source};
 use std::alloc::{AllocError, Global};
 use std::process::Abort;
 use std::test::Fail;
@@ -84,18 +85,24 @@ const READING: &str = "       IDENTIFICATION DIVISION.
 ";
 
 /// A word for an answer.
-pub fn word_of(came: &Came) -> &'static str {
+pub fn word_of(came: &Result<SourceRun, ReadRefusal>) -> &'static str {
     match came {
-        Came::Ran(_, Ran::Ended(Ending::Stopped)) => "stopped",
-        Came::Ran(_, Ran::Ended(Ending::Abended(Abend::BadDigits))) => "bad digits",
-        Came::Ran(_, Ran::Ended(Ending::Abended(Abend::OutOfRange))) => "out of range",
-        Came::Ran(_, Ran::Ended(Ending::Faulted(FlowFault::Overlap(_)))) => "overlap",
-        Came::Ran(_, Ran::Ended(Ending::Abended(Abend::Io(30)))) => "io 30",
-        Came::Ran(_, Ran::Budget) => "budget",
-        Came::Ran(_, Ran::WriteFault) => "write fault",
-        Came::Ran(_, _) => "another end",
-        Came::Refused(_) => "refused",
-        Came::NoMemory => "no memory",
+        Ok(run) => word_of_run(&run.ran),
+        Err(ReadRefusal::NoMemory) => "no memory",
+        Err(_) => "refused",
+    }
+}
+
+fn word_of_run(ran: &Ran) -> &'static str {
+    match ran {
+        Ran::Ended(Ending::Stopped) => "stopped",
+        Ran::Ended(Ending::Abended(Abend::BadDigits)) => "bad digits",
+        Ran::Ended(Ending::Abended(Abend::OutOfRange)) => "out of range",
+        Ran::Ended(Ending::Faulted(FlowFault::Overlap(_))) => "overlap",
+        Ran::Ended(Ending::Abended(Abend::Io(30))) => "io 30",
+        Ran::Budget => "budget",
+        Ran::WriteFault => "write fault",
+        _ => "another end",
     }
 }
 

@@ -1,5 +1,5 @@
 -- What a run leaves of its bench, by its status.
-use Rattle.std.proofs.Common.{◌≡◌, ◌⊎◌, ℕ, List, sym, subst, inl, inr}
+use Rattle.std.proofs.Common.{◌≡◌, ◌⊎◌, ℕ, List, Ok, Err, sym, subst, inl, inr}
 use Rattle.cob_base.specs.Source.{SourceCall}
 use Rattle.cob_base.specs.Sink.{SinkCall}
 use Rattle.cob_tree.specs.declared.program.Program.{Program}
@@ -13,16 +13,14 @@ use Rattle.cobol_run.specs.Points.{world_after, world_at}
 use Rattle.cobol_run.specs.declared.machine.Ending.TheVariants as ending
 use Rattle.cobol_run.specs.declared.running.Ran.{Ran}
 use Rattle.cobol_run.specs.declared.running.Ran.TheVariants as ran
-use Rattle.restructure_core.specs.declared.run.Came.{Came}
-use Rattle.restructure_core.specs.declared.run.Came.TheVariants as came
-use Rattle.restructure_core.specs.run.Answers.{ComesOver}
+use Rattle.restructure_core.specs.run.Answers.{Came, ComesOver}
 use Rattle.restructure_core.specs.run.Bench.{BenchCall, StaysAsWas, devices_after}
 use Rattle.restructure_asks.specs.declared.refusal.Refusal.{Refusal}
 use Rattle.restructure_asks.specs.declared.refusal.Refusal.TheVariants as refusal
 use Rattle.restructure_asks.specs.declared.status.Status.{Status}
 use Rattle.restructure_asks.specs.Reading.{Tells}
 use Rattle.restructure_asks.specs.Refusal.{status_of}
-use Rattle.restructure_asks.specs.Running.{TellsCame, refusal_of}
+use Rattle.restructure_asks.specs.Running.{TellsCame, refusal_of, refusal_of_run}
 use Rattle.restructure_asks.specs.Writing.{Notes}
 use Rattle.restructure_asks.specs.Laws.{BenchIsLeft, FailedAt, LeavesBench}
 
@@ -38,7 +36,7 @@ module _ (notes : SinkCall) (gone : List (List ℕ)) where
   failed-device name answer h (inl g) = subst (λ s. FailedAt s notes gone) (sym g.0) (name, h.0, h.1, g.1)
   failed-device name answer h (inr g) = subst (λ s. FailedAt s notes gone) (sym g.0) tt
 
-  failed-told : (steps : ℕ) (program : Program) (one : Ran) (answer : Status) → Names one gone → TellsCame (refusal_of steps (came.Ran program one)) notes answer → FailedAt answer notes gone
+  failed-told : (steps : ℕ) (program : Program) (one : Ran) (answer : Status) → Names one gone → TellsCame (refusal_of_run steps program one) notes answer → FailedAt answer notes gone
   failed-told steps program (ran.Ended ending.Stopped) answer h g = subst (λ s. FailedAt s notes gone) (sym g.0) h
   failed-told steps program (ran.Ended (ending.Abended abend)) answer h g = failed-noted (refusal.Abend abend) answer h g
   failed-told steps program (ran.Ended (ending.Faulted fault)) answer h g = failed-noted (refusal.Fault program fault) answer h g
@@ -60,20 +58,19 @@ left-world program files steps sink Left ran.NoMemory h = (world_at program file
 
 module _ (steps : ℕ) (source : SourceCall) (out notes : SinkCall) (bench : BenchCall) (answer : Status) (bytes : List ℕ) (told : Tells source.told bytes) where
   came-left : (c : Came) → ComesOver bytes steps out bench c → TellsCame (refusal_of steps c) notes answer → StaysAsWas bench ⊎ LeavesBench source notes bench answer
-  came-left (came.Ran program one) h g =
+  came-left (Ok run) h g =
       let ends = h.2.0 in
       inr (record {
         bytes = bytes;
         told = told;
-        program = program;
+        program = run.program;
         reads = h.0;
         gone = ends.gone;
-        failed = failed-told notes ends.gone steps program one answer ends.names g;
+        failed = failed-told notes ends.gone steps run.program run.ran answer ends.names g;
         left = ends.bench;
-        closed = λ files tells. left-world program files steps out (LeavesFiles (addresses_of program.files) ends.gone (devices_after bench)) one (ends.files files h.1 tells);
+        closed = λ files tells. left-world run.program files steps out (LeavesFiles (addresses_of run.program.files) ends.gone (devices_after bench)) run.ran (ends.files files h.1 tells);
       })
-  came-left (came.Refused why) h g = inl h
-  came-left came.NoMemory h g = inl h
+  came-left (Err why) h g = inl h
 
 pub bench-left : BenchIsLeft
 bench-left steps source out notes bench answer (inl h) =

@@ -1,16 +1,16 @@
 -- A device fault that is told is one of a device.
-use Rattle.std.proofs.Common.{◌≡◌, ◌∙◌, Bool, true, false, sym, ap, subst, refl, ℕ, List, Option, Some, ◌⊎◌, inl, inr}
+use Rattle.std.proofs.Common.{◌≡◌, ◌∙◌, Bool, true, false, sym, ap, subst, refl, ℕ, List, Option, Some, Ok, Err, ◌⊎◌, inl, inr}
 use Rattle.cob_base.specs.Source.{SourceCall}
 use Rattle.cob_base.specs.Sink.{SinkCall}
+use Rattle.cob_tree.specs.declared.program.Program.{Program}
 use Rattle.cobol_run.specs.declared.machine.Ending.TheVariants as ending
+use Rattle.cobol_run.specs.declared.running.Ran.{Ran}
 use Rattle.cobol_run.specs.declared.running.Ran.TheVariants as ran
 use Rattle.restructure_core.specs.declared.fault.Refused.{Refused}
 use Rattle.restructure_core.specs.declared.fault.Refused.TheVariants as refused
 use Rattle.cobol_read.specs.declared.refusal.ReadRefusal.{ReadRefusal}
 use Rattle.cobol_read.specs.declared.refusal.ReadRefusal.TheVariants as rd
-use Rattle.restructure_core.specs.declared.run.Came.{Came}
-use Rattle.restructure_core.specs.declared.run.Came.TheVariants as came
-use Rattle.restructure_core.specs.run.Answers.{CameFalls}
+use Rattle.restructure_core.specs.run.Answers.{Came, CameFalls}
 use Rattle.restructure_core.specs.run.Bench.{BenchCall}
 use Rattle.restructure_asks.specs.declared.ask.Ask.{Ask}
 use Rattle.restructure_asks.specs.declared.refusal.Refusal.{Refusal}
@@ -19,7 +19,7 @@ use Rattle.restructure_asks.specs.declared.status.Status.{Status}
 use Rattle.restructure_asks.specs.declared.status.Status.TheVariants as status
 use Rattle.restructure_asks.specs.declared.texts.Texts.{Texts}
 use Rattle.restructure_asks.specs.Refusal.{line_of, refused_status, status_of}
-use Rattle.restructure_asks.specs.Running.{IsDeviceTold, TellsCame, refusal_of, unread}
+use Rattle.restructure_asks.specs.Running.{IsDeviceTold, TellsCame, refusal_of, refusal_of_run, unread}
 use Rattle.restructure_asks.specs.Tool.{EndsOfText}
 use Rattle.cob_base.specs.giving.Giving.{Takes}
 use Rattle.restructure_asks.specs.Writing.{Notes, Writes}
@@ -68,24 +68,25 @@ unread_never (rd.Fault fault) notes answer h is = noted_never (unread (rd.Fault 
 unread_never (rd.Limit limit) notes answer h is = noted_never (unread (rd.Limit limit)) notes answer refl h is
 unread_never rd.NoMemory notes answer h is = noted_never refusal.NoMemory notes answer refl h is
 
-pub device_told : (steps : ℕ) (c : Came) (notes : SinkCall) (answer : Status) (bench : BenchCall) → TellsCame (refusal_of steps c) notes answer → CameFalls c bench → answer ≡ status.DeviceFault → IsDeviceTold notes bench
-device_told steps (came.Ran program (ran.DeviceFault name)) notes answer bench tells falls is =
+ran_told : (steps : ℕ) (program : Program) (one : Ran) (notes : SinkCall) (answer : Status) (bench : BenchCall) → TellsCame (refusal_of_run steps program one) notes answer → CameFalls (Ok (record { program = program; ran = one })) bench → answer ≡ status.DeviceFault → IsDeviceTold notes bench
+ran_told steps program (ran.DeviceFault name) notes answer bench tells falls is =
     record { name = name; fell = falls; noted = noted_line (refusal.Device name) notes answer is tells }
-device_told steps (came.Ran program (ran.Ended ending.Stopped)) notes answer bench tells falls is =
+ran_told steps program (ran.Ended ending.Stopped) notes answer bench tells falls is =
     absurd (let x : status.Done ≡ status.DeviceFault = sym tells.0 ∙ is in cc)
-device_told steps (came.Ran program (ran.Ended (ending.Abended abend))) notes answer bench tells falls is =
+ran_told steps program (ran.Ended (ending.Abended abend)) notes answer bench tells falls is =
     absurd (noted_never (refusal.Abend abend) notes answer refl tells is)
-device_told steps (came.Ran program (ran.Ended (ending.Faulted fault))) notes answer bench tells falls is =
+ran_told steps program (ran.Ended (ending.Faulted fault)) notes answer bench tells falls is =
     absurd (noted_never (refusal.Fault program fault) notes answer refl tells is)
-device_told steps (came.Ran program ran.Budget) notes answer bench tells falls is =
+ran_told steps program ran.Budget notes answer bench tells falls is =
     absurd (noted_never (refusal.Budget steps) notes answer refl tells is)
-device_told steps (came.Ran program ran.WriteFault) notes answer bench tells falls is =
+ran_told steps program ran.WriteFault notes answer bench tells falls is =
     absurd (let x : status.WriteFault ≡ status.DeviceFault = sym tells.0 ∙ is in cc)
-device_told steps (came.Ran program ran.NoMemory) notes answer bench tells falls is =
+ran_told steps program ran.NoMemory notes answer bench tells falls is =
     absurd (noted_never refusal.NoMemory notes answer refl tells is)
-device_told steps (came.Refused why) notes answer bench tells falls is = absurd (unread_never why notes answer tells is)
-device_told steps came.NoMemory notes answer bench tells falls is =
-    absurd (noted_never refusal.NoMemory notes answer refl tells is)
+
+pub device_told : (steps : ℕ) (c : Came) (notes : SinkCall) (answer : Status) (bench : BenchCall) → TellsCame (refusal_of steps c) notes answer → CameFalls c bench → answer ≡ status.DeviceFault → IsDeviceTold notes bench
+device_told steps (Ok run) notes answer bench tells falls is = ran_told steps run.program run.ran notes answer bench tells falls is
+device_told steps (Err why) notes answer bench tells falls is = absurd (unread_never why notes answer tells is)
 
 -- other asks tell of none
 

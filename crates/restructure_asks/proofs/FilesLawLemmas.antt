@@ -1,5 +1,5 @@
 -- At most one end of a run over files is due, and what is due comes.
-use Rattle.std.proofs.Common.{◌≡◌, ℕ, List, Option, Some, None, refl, ap, sym, ◌∙◌, subst, inl, inr}
+use Rattle.std.proofs.Common.{◌≡◌, ℕ, List, Option, Some, None, Ok, Err, refl, ap, sym, ◌∙◌, subst, inl, inr}
 use Rattle.cob_base.specs.Sink.{SinkCall}
 use Rattle.cob_tree.specs.declared.program.Program.{Program}
 use Rattle.control_flow_theory.specs.runs.Run.{Going}
@@ -11,6 +11,7 @@ use Rattle.cobol_run.specs.Over.{TellFiles}
 use Rattle.cobol_run.specs.Points.{world_after}
 use Rattle.cobol_run.specs.declared.machine.Ending.{Ending}
 use Rattle.cobol_run.specs.declared.machine.Ending.TheVariants as ending
+use Rattle.cobol_run.specs.declared.running.Ran.{Ran}
 use Rattle.cobol_run.specs.declared.running.Ran.TheVariants as ran
 use Rattle.restructure_core.specs.declared.fault.Refused.{Refused}
 use Rattle.restructure_core.specs.declared.fault.Refused.TheVariants as refused
@@ -18,9 +19,7 @@ use Rattle.restructure_core.specs.Pipeline.{IsUnread}
 use Rattle.restructure_core.specs.Fault.{of_read_refusal}
 use Rattle.cobol_read.specs.declared.refusal.ReadRefusal.{ReadRefusal}
 use Rattle.cobol_read.specs.declared.refusal.ReadRefusal.TheVariants as rd
-use Rattle.restructure_core.specs.declared.run.Came.{Came}
-use Rattle.restructure_core.specs.declared.run.Came.TheVariants as came
-use Rattle.restructure_core.specs.run.Answers.{Comes, ComesOver}
+use Rattle.restructure_core.specs.run.Answers.{Came, Comes, ComesOver}
 use Rattle.restructure_core.specs.run.Bench.{BenchCall, devices_before}
 use Rattle.restructure_asks.specs.declared.refusal.Refusal.{Refusal}
 use Rattle.restructure_asks.specs.declared.refusal.Refusal.TheVariants as refusal
@@ -29,7 +28,7 @@ use Rattle.restructure_asks.specs.declared.status.Status.TheVariants as status
 use Rattle.restructure_asks.specs.Status.{IsOneOf}
 use Rattle.restructure_asks.specs.Refusal.{status_of}
 use Rattle.restructure_asks.specs.Reading.{Tells}
-use Rattle.restructure_asks.specs.Running.{EndsOnFiles, IsRunDueOnFiles, StandsOnFiles, TellsCame, refusal_of, refusal_of_ending, unread}
+use Rattle.restructure_asks.specs.Running.{EndsOnFiles, IsRunDueOnFiles, StandsOnFiles, TellsCame, refusal_of, refusal_of_ending, refusal_of_run, unread}
 use Rattle.restructure_asks.specs.Writing.{Notes}
 use Rattle.restructure_asks.specs.Laws.{OneRunIsDueOnFiles, DueRunComesOnFiles, statuses_over}
 use Rattle.restructure_asks.proofs.RunLawLemmas.{ending-same, never-both, no-memory-comes, over-never, over-same, unread-same, unrun-comes}
@@ -123,27 +122,32 @@ module _ (steps : ℕ) (bytes : List ℕ) (files : Files) (due : Option Refusal)
   refused-told (rd.Fault fault) notes answer h g = due-noted (refusal.Refused (refused.NotSubset fault)) notes answer h (inr (inl refl)) g
 
   module _ (bench : BenchCall) (tells : (program : Program) → Reads bytes program → TellFiles program (devices_before bench) files) where
-    ends-in : (program : Program) (end : Ending) (out : SinkCall) → ComesOver bytes steps out bench (came.Ran program (ran.Ended end)) → EndsOnFiles bytes steps files program end
+    ends-in : (program : Program) (end : Ending) (out : SinkCall) → ComesOver bytes steps out bench (Ok (record { program = program; ran = ran.Ended end })) → EndsOnFiles bytes steps files program end
     ends-in program end out h =
         let run = h.2.0.files files h.1 (tells program h.0) in
         ((world_after program files steps).shelves, record { reads = h.0; stands = run.0.0 })
 
-    came-told : (c : Came) (out notes : SinkCall) (answer : Status) → Comes bytes steps out c → ComesOver bytes steps out bench c → TellsCame (refusal_of steps c) notes answer → IsOneOf (statuses_over due) answer
-    came-told (came.Ran program (ran.Ended ending.Stopped)) out notes answer h o g =
+    ran-told : (program : Program) (one : Ran) (out notes : SinkCall) (answer : Status) → Reads bytes program → ComesOver bytes steps out bench (Ok (record { program = program; ran = one })) → TellsCame (refusal_of_run steps program one) notes answer → IsOneOf (statuses_over due) answer
+    ran-told program (ran.Ended ending.Stopped) out notes answer h o g =
         subst (IsOneOf (statuses_over due)) (sym g.0) (done-comes program (ends-in program ending.Stopped out o))
-    came-told (came.Ran program (ran.Ended (ending.Abended abend))) out notes answer h o g =
+    ran-told program (ran.Ended (ending.Abended abend)) out notes answer h o g =
         due-noted (refusal.Abend abend) notes answer (program, ends-in program (ending.Abended abend) out o) (inr (inl refl)) g
-    came-told (came.Ran program (ran.Ended (ending.Faulted fault))) out notes answer h o g =
+    ran-told program (ran.Ended (ending.Faulted fault)) out notes answer h o g =
         due-noted (refusal.Fault program fault) notes answer (ends-in program (ending.Faulted fault) out o) (inr (inl refl)) g
-    came-told (came.Ran program ran.Budget) out notes answer h o g =
+    ran-told program ran.Budget out notes answer h o g =
         due-noted (refusal.Budget steps) notes answer (refl, (program, record { reads = o.0; stands = (o.2.0.files files o.1 (tells program o.0)).0.0 })) (inr (inl refl)) g
-    came-told (came.Ran program (ran.DeviceFault name)) out notes answer h o g = noted-over (refusal.Device name) due notes answer (inl refl) g
-    came-told (came.Ran program ran.WriteFault) out notes answer h o g =
-        subst (IsOneOf (statuses_over due)) (sym g.0) (cut-comes steps bytes files program due h.0 is_due)
-    came-told (came.Ran program ran.NoMemory) out notes answer h o g = noted-over refusal.NoMemory due notes answer (no-memory-over due) g
-    came-told (came.Refused why) out notes answer h o g =
-        refused-told why notes answer (record { why = why; some = h.1; cause = h.0; is = refl }) g
-    came-told came.NoMemory out notes answer h o g = noted-over refusal.NoMemory due notes answer (no-memory-over due) g
+    ran-told program (ran.DeviceFault name) out notes answer h o g = noted-over (refusal.Device name) due notes answer (inl refl) g
+    ran-told program ran.WriteFault out notes answer h o g =
+        subst (IsOneOf (statuses_over due)) (sym g.0) (cut-comes steps bytes files program due h is_due)
+    ran-told program ran.NoMemory out notes answer h o g = noted-over refusal.NoMemory due notes answer (no-memory-over due) g
+
+    came-told : (c : Came) (out notes : SinkCall) (answer : Status) → Comes bytes steps out c → ComesOver bytes steps out bench c → TellsCame (refusal_of steps c) notes answer → IsOneOf (statuses_over due) answer
+    came-told (Ok run) out notes answer h o g = ran-told run.program run.ran out notes answer h.0 o g
+    came-told (Err rd.NoMemory) out notes answer h o g = noted-over refusal.NoMemory due notes answer (no-memory-over due) g
+    came-told (Err (rd.Fault fault)) out notes answer h o g =
+        refused-told (rd.Fault fault) notes answer (record { why = rd.Fault fault; some = h.1; cause = h.0; is = refl }) g
+    came-told (Err (rd.Limit limit)) out notes answer h o g =
+        refused-told (rd.Limit limit) notes answer (record { why = rd.Limit limit; some = h.1; cause = h.0; is = refl }) g
 
 pub due-run-on-files : DueRunComesOnFiles
 due-run-on-files steps source out notes bench answer (inl h) bytes files due told tells is_due =

@@ -1,5 +1,5 @@
 -- At most one end of a run is due, and what is due comes.
-use Rattle.std.proofs.Common.{◌≡◌, ℕ, ◌+◌, List, [], Option, Some, None, refl, ap, sym, ◌∙◌, subst, arith, inl, inr}
+use Rattle.std.proofs.Common.{◌≡◌, ℕ, ◌+◌, List, [], Option, Some, None, Ok, Err, refl, ap, sym, ◌∙◌, subst, arith, inl, inr}
 use Rattle.std.specs.Prelude.{true}
 use Rattle.cob_base.specs.Source.{SourceCall}
 use Rattle.cob_base.specs.Sink.{SinkCall}
@@ -18,6 +18,7 @@ use Rattle.cobol_run.specs.Machine.{ending_seen, fault_seen}
 use Rattle.cobol_run.specs.PlainTests.{is_plain}
 use Rattle.cobol_run.specs.declared.machine.Ending.{Ending}
 use Rattle.cobol_run.specs.declared.machine.Ending.TheVariants as ending
+use Rattle.cobol_run.specs.declared.running.Ran.{Ran}
 use Rattle.cobol_run.specs.declared.running.Ran.TheVariants as ran
 use Rattle.restructure_core.specs.declared.fault.Refused.{Refused}
 use Rattle.restructure_core.specs.declared.fault.Refused.TheVariants as refused
@@ -25,9 +26,7 @@ use Rattle.restructure_core.specs.Pipeline.{IsUnread}
 use Rattle.restructure_core.specs.Fault.{of_read_refusal}
 use Rattle.cobol_read.specs.declared.refusal.ReadRefusal.{ReadRefusal}
 use Rattle.cobol_read.specs.declared.refusal.ReadRefusal.TheVariants as rd
-use Rattle.restructure_core.specs.declared.run.Came.{Came}
-use Rattle.restructure_core.specs.declared.run.Came.TheVariants as came
-use Rattle.restructure_core.specs.run.Answers.{Comes}
+use Rattle.restructure_core.specs.run.Answers.{Came, Comes}
 use Rattle.restructure_asks.specs.declared.refusal.Refusal.{Refusal}
 use Rattle.restructure_asks.specs.declared.refusal.Refusal.TheVariants as refusal
 use Rattle.restructure_asks.specs.declared.status.Status.{Status}
@@ -35,7 +34,7 @@ use Rattle.restructure_asks.specs.declared.status.Status.TheVariants as status
 use Rattle.restructure_asks.specs.Status.{IsOneOf}
 use Rattle.restructure_asks.specs.Refusal.{status_of}
 use Rattle.restructure_asks.specs.Reading.{Tells}
-use Rattle.restructure_asks.specs.Running.{EndsAs, IsRunDue, IsUnrun, StandsSo, TellsCame, refusal_of, refusal_of_ending, unread}
+use Rattle.restructure_asks.specs.Running.{EndsAs, IsRunDue, IsUnrun, StandsSo, TellsCame, refusal_of, refusal_of_ending, refusal_of_run, unread}
 use Rattle.restructure_asks.specs.Writing.{Notes}
 use Rattle.restructure_asks.specs.Laws.{OneRunIsDue, DueRunComes, statuses_of_run}
 
@@ -226,7 +225,7 @@ module _ (steps : ℕ) (bytes : List ℕ) (due : Option Refusal) (is_due : IsRun
   is-plain : (program : Program) → Reads bytes program → is_plain program ≡ true
   is-plain program reads = plain-due steps bytes program due reads (of-due steps bytes due is_due)
 
-  stands-so : (program : Program) (end : Ending) (out : SinkCall) → Comes bytes steps out (came.Ran program (ran.Ended end)) → EndsAs bytes steps program end
+  stands-so : (program : Program) (end : Ending) (out : SinkCall) → Comes bytes steps out (Ok (record { program = program; ran = ran.Ended end })) → EndsAs bytes steps program end
   stands-so program end out h = record { reads = h.0; plain = is-plain program h.0; stands = λ files. (h.1 (is-plain program h.0) files).0 }
 
   done-comes : (program : Program) → EndsAs bytes steps program ending.Stopped → IsOneOf (statuses_of_run due) status.Done
@@ -237,23 +236,28 @@ module _ (steps : ℕ) (bytes : List ℕ) (due : Option Refusal) (is_due : IsRun
   refused-told rd.NoMemory notes answer h g = noted refusal.NoMemory due notes answer (no-memory-comes due) g
   refused-told (rd.Fault fault) notes answer h g = due-noted (refusal.Refused (refused.NotSubset fault)) notes answer h (inl refl) g
 
-  came-told : (c : Came) (out notes : SinkCall) (answer : Status) → Comes bytes steps out c → TellsCame (refusal_of steps c) notes answer → IsOneOf (statuses_of_run due) answer
-  came-told (came.Ran program (ran.Ended ending.Stopped)) out notes answer h g =
+  ran-told : (program : Program) (one : Ran) (out notes : SinkCall) (answer : Status) → Comes bytes steps out (Ok (record { program = program; ran = one })) → TellsCame (refusal_of_run steps program one) notes answer → IsOneOf (statuses_of_run due) answer
+  ran-told program (ran.Ended ending.Stopped) out notes answer h g =
       subst (IsOneOf (statuses_of_run due)) (sym g.0) (done-comes program (stands-so program ending.Stopped out h))
-  came-told (came.Ran program (ran.Ended (ending.Abended abend))) out notes answer h g =
+  ran-told program (ran.Ended (ending.Abended abend)) out notes answer h g =
       due-noted (refusal.Abend abend) notes answer (program, stands-so program (ending.Abended abend) out h) (inl refl) g
-  came-told (came.Ran program (ran.Ended (ending.Faulted fault))) out notes answer h g =
+  ran-told program (ran.Ended (ending.Faulted fault)) out notes answer h g =
       due-noted (refusal.Fault program fault) notes answer (stands-so program (ending.Faulted fault) out h) (inl refl) g
-  came-told (came.Ran program ran.Budget) out notes answer h g =
+  ran-told program ran.Budget out notes answer h g =
       let plain = is-plain program h.0 in
       due-noted (refusal.Budget steps) notes answer (refl, (program, record { reads = h.0; plain = plain; stands = λ files. (h.1 plain files).0 })) (inl refl) g
-  came-told (came.Ran program (ran.DeviceFault name)) out notes answer h g = absurd (h.1 (is-plain program h.0) [])
-  came-told (came.Ran program ran.WriteFault) out notes answer h g =
+  ran-told program (ran.DeviceFault name) out notes answer h g = absurd (h.1 (is-plain program h.0) [])
+  ran-told program ran.WriteFault out notes answer h g =
       subst (IsOneOf (statuses_of_run due)) (sym g.0) (write-fault-comes steps bytes program due h.0 is_due)
-  came-told (came.Ran program ran.NoMemory) out notes answer h g = noted refusal.NoMemory due notes answer (no-memory-comes due) g
-  came-told (came.Refused why) out notes answer h g =
-      refused-told why notes answer (record { why = why; some = h.1; cause = h.0; is = refl }) g
-  came-told came.NoMemory out notes answer h g = noted refusal.NoMemory due notes answer (no-memory-comes due) g
+  ran-told program ran.NoMemory out notes answer h g = noted refusal.NoMemory due notes answer (no-memory-comes due) g
+
+  came-told : (c : Came) (out notes : SinkCall) (answer : Status) → Comes bytes steps out c → TellsCame (refusal_of steps c) notes answer → IsOneOf (statuses_of_run due) answer
+  came-told (Ok run) out notes answer h g = ran-told run.program run.ran out notes answer h g
+  came-told (Err rd.NoMemory) out notes answer h g = noted refusal.NoMemory due notes answer (no-memory-comes due) g
+  came-told (Err (rd.Fault fault)) out notes answer h g =
+      refused-told (rd.Fault fault) notes answer (record { why = rd.Fault fault; some = h.1; cause = h.0; is = refl }) g
+  came-told (Err (rd.Limit limit)) out notes answer h g =
+      refused-told (rd.Limit limit) notes answer (record { why = rd.Limit limit; some = h.1; cause = h.0; is = refl }) g
 
 pub unrun-comes : (due : Option Refusal) (source : SourceCall) (out notes : SinkCall) (answer : Status) → IsUnrun source out notes answer → IsOneOf (statuses_of_run due) answer
 unrun-comes due source out notes answer h = elim h.why [

@@ -1,5 +1,5 @@
 -- How a call that runs a source ends, and what is due to it.
-use Rattle.std.proofs.Common.{◌≡◌, ℕ, ◌+◌, ◌≤◌, List, length, Some, refl, sym, subst, arith, ◌<◌, ◌⊎◌, inl, inr}
+use Rattle.std.proofs.Common.{◌≡◌, ℕ, ◌+◌, ◌≤◌, List, length, Some, Ok, Err, refl, sym, subst, arith, ◌<◌, ◌⊎◌, inl, inr}
 use Rattle.std.specs.Prelude.{◌≢◌}
 use Rattle.cob_base.specs.Faults.{Rose}
 use Rattle.cob_base.specs.Source.{SourceCall}
@@ -8,9 +8,8 @@ use Rattle.cobol_read.specs.declared.refusal.ReadRefusal.{ReadRefusal}
 use Rattle.cobol_read.specs.declared.refusal.ReadRefusal.TheVariants as rd
 use Rattle.cob_base.specs.Limit.{max_source}
 use Rattle.cobol_read.specs.Limit.{past_source}
-use Rattle.restructure_core.specs.declared.run.Came.{Came}
-use Rattle.restructure_core.specs.declared.run.Came.TheVariants as came
-use Rattle.restructure_core.specs.run.Answers.{Comes, ComesOver, IsWriteFault}
+use Rattle.cobol_read.specs.Reading.{HasCause}
+use Rattle.restructure_core.specs.run.Answers.{Came, Comes, ComesOver, IsWriteFault}
 use Rattle.restructure_core.specs.run.Bench.{BenchCall}
 use Rattle.restructure_asks.proofs.LengthLemmas.{short-read, short-either}
 use Rattle.restructure_asks.proofs.EndLemmas.{whole-read, long-read}
@@ -31,33 +30,36 @@ module _ (steps : ℕ) (source : SourceCall) (out : SinkCall) (text : List ℕ) 
   short : (c : Came) → length text ≤ max_source → Comes text steps out c → IsRun steps source out c
   short c few h = run-of c (subst (λ b. Comes b steps out c) (whole-read read.bytes text read.front few) h)
 
-  long : (why : ReadRefusal) → why ≡ rd.Limit past_source → max_source < length text → why ≢ rd.NoMemory → Keeps out → IsRun steps source out (came.Refused why)
-  long why is past some kept = subst (λ w. IsRun steps source out (came.Refused w)) (sym is) (run-of (came.Refused (rd.Limit past_source)) ((long-read read.bytes text read.front past, refl), (λ e. cc), kept))
+  long : (why : ReadRefusal) → why ≡ rd.Limit past_source → max_source < length text → why ≢ rd.NoMemory → Keeps out → IsRun steps source out (Err why)
+  long why is past some kept = subst (λ w. IsRun steps source out (Err w)) (sym is) (run-of (Err (rd.Limit past_source)) ((long-read read.bytes text read.front past, refl), (λ e. cc), kept))
+
+  -- a text that is refused, for another cause than the want of memory
+  refused : (why : ReadRefusal) → why ≢ rd.NoMemory → HasCause text why → Keeps out → Comes text steps out (Err why) → IsRun steps source out (Err why)
+  refused why some cause kept h = elim (short-either text why some cause) [
+    | inl few ↦ short (Err why) few h
+    | inr past ↦ long why past.0 past.1 some kept
+  ]
 
   pub was-run : (c : Came) → Comes text steps out c → IsRun steps source out c
-  was-run (came.Ran program ran) h = short (came.Ran program ran) (short-read text program h.0) h
-  was-run (came.Refused why) h = elim (short-either text why h.1 h.0) [
-    | inl few ↦ short (came.Refused why) few h
-    | inr past ↦ long why past.0 past.1 h.1 h.2
-  ]
-  was-run came.NoMemory h = run-of came.NoMemory h
+  was-run (Ok run) h = short (Ok run) (short-read text run.program h.0) h
+  was-run (Err rd.NoMemory) h = run-of (Err rd.NoMemory) h
+  was-run (Err (rd.Fault fault)) h = refused (rd.Fault fault) h.1 h.0 h.2 h
+  was-run (Err (rd.Limit limit)) h = refused (rd.Limit limit) h.1 h.0 h.2 h
 
   pub told-run : (c : Came) (notes : SinkCall) (answer : Status) → Comes text steps out c → TellsCame (refusal_of steps c) notes answer → (IsWriteFault c → Rose out.count out.count_now) → EndsOfRun steps source out notes answer
   told-run c notes answer h told fault = inl (record { came = c; run = was-run c h; told = told; fault = fault })
 
   pub over-run : (c : Came) (notes : SinkCall) (answer : Status) (bench : BenchCall) → Comes text steps out c → ComesOver text steps out bench c → TellsCame (refusal_of steps c) notes answer → (IsWriteFault c → Rose out.count out.count_now) → EndsOfRunWithFiles steps source out notes bench answer
   unfolding run-of
-  over-run (came.Ran program ran) notes answer bench h over told fault =
-      let c : Came = came.Ran program ran in
-      let whole = whole-read read.bytes text read.front (short-read text program h.0) in
+  over-run (Ok run) notes answer bench h over told fault =
+      let c : Came = Ok run in
+      let whole = whole-read read.bytes text read.front (short-read text run.program h.0) in
       inl (record {
         told = record { came = c; run = run-of c (subst (λ b. Comes b steps out c) whole h); told = told; fault = fault };
         over = subst (λ b. ComesOver b steps out bench c) whole over;
       })
-  over-run (came.Refused why) notes answer bench h over told fault =
-      inl (record { told = record { came = came.Refused why; run = was-run (came.Refused why) h; told = told; fault = fault }; over = over })
-  over-run came.NoMemory notes answer bench h over told fault =
-      inl (record { told = record { came = came.NoMemory; run = was-run came.NoMemory h; told = told; fault = fault }; over = over })
+  over-run (Err why) notes answer bench h over told fault =
+      inl (record { told = record { came = Err why; run = was-run (Err why) h; told = told; fault = fault }; over = over })
 
 -- a source that failed, or for which memory was wanted, wasn't run
 pub never-run : (source : SourceCall) (out notes : SinkCall) (r : Refusal) (answer : Status) → (r ≡ refusal.ReadFault) ⊎ (r ≡ refusal.NoMemory) → (r ≡ refusal.ReadFault → Rose source.count source.count_now) → IsReadWithin (max_source + 1) source → Keeps out → Notes r notes answer → IsUnrun source out notes answer

@@ -1,5 +1,5 @@
 -- How a call that runs a source ends.
-use Rattle.std.specs.Prelude.{ℕ, ◌≡◌, ◌+◌, ◌⊎◌, true, List, Option, Some, None}
+use Rattle.std.specs.Prelude.{ℕ, ◌≡◌, ◌+◌, ◌⊎◌, true, List, Option, Some, None, Ok, Err}
 use Rattle.cob_base.specs.Faults.{Rose}
 use Rattle.cob_base.specs.Source.{SourceCall}
 use Rattle.cob_base.specs.Sink.{SinkCall}
@@ -19,9 +19,7 @@ use Rattle.cobol_run.specs.Machine.{ending_seen}
 use Rattle.cobol_run.specs.PlainTests.{is_plain}
 use Rattle.restructure_core.specs.Pipeline.{IsUnread}
 use Rattle.restructure_core.specs.Fault.{of_read_refusal}
-use Rattle.restructure_core.specs.declared.run.Came.{Came}
-use Rattle.restructure_core.specs.declared.run.Came.TheVariants as came
-use Rattle.restructure_core.specs.run.Answers.{Comes, ComesOver, IsWriteFault}
+use Rattle.restructure_core.specs.run.Answers.{Came, Comes, ComesOver, IsWriteFault}
 use Rattle.restructure_core.specs.run.Bench.{BenchCall, StaysAsWas}
 use Rattle.restructure_asks.specs.declared.refusal.Refusal.{Refusal}
 use Rattle.restructure_asks.specs.declared.refusal.Refusal.TheVariants as refusals
@@ -32,7 +30,7 @@ use Rattle.restructure_asks.specs.Refusal.{line_of, of_refused}
 use Rattle.cob_base.specs.giving.Giving.{Takes, Keeps}
 use Rattle.restructure_asks.specs.Writing.{Notes, NotesOrNot}
 
--- the refusal of a source that isn't read
+-- the refusal of a source that isn't read, or for which memory was wanted
 abbrev pub unread : ReadRefusal → Refusal
 unread why = of_refused (of_read_refusal why)
 
@@ -52,9 +50,8 @@ refusal_of_run steps program ran.NoMemory = Some refusals.NoMemory
 
 -- the refusal that tells what came of a source; none where its run stopped normally
 abbrev pub refusal_of : ℕ → Came → Option Refusal
-refusal_of steps (came.Refused why) = Some (unread why)
-refusal_of steps came.NoMemory = Some refusals.NoMemory
-refusal_of steps (came.Ran program ran) = refusal_of_run steps program ran
+refusal_of steps (Ok run) = refusal_of_run steps run.program run.ran
+refusal_of steps (Err why) = Some (unread why)
 
 -- the bytes are this program, which has no statements on files, and over all files its run stands
 -- so after so many steps

@@ -18,7 +18,7 @@ use cobol_run::{Ending, Ran};
 use file_model::Bench;
 use file_model::operations::Shown;
 use restructure_core::Refused;
-use restructure_core::run::{Came, run_source};
+use restructure_core::run::{SourceRun, run_source};
 use std::alloc::Global;
 
 /// Reads a source and runs it over a bench for at most so many steps. What it displays goes to
@@ -54,7 +54,12 @@ pub fn answer_run<S: Source, K: Sink, N: Sink>(
 }
 
 // Writes to the notes what came of a source, unless its run stopped by itself.
-fn tell<N: Sink>(alloc: Global, steps: u64, came: Came, notes: &mut N) -> Status
+fn tell<N: Sink>(
+    alloc: Global,
+    steps: u64,
+    came: Result<SourceRun, ReadRefusal>,
+    notes: &mut N,
+) -> Status
     ensures { TellsCame (refusal_of steps came)
         (sink_call N.held N.faults notes.old notes.new) result }
 {
@@ -80,13 +85,12 @@ fn tell_why<N: Sink>(alloc: Global, refusal: &Refusal, notes: &mut N) -> Status
 }
 
 // Why a source has no run that stopped by itself; none where it has.
-fn refusal_of(steps: u64, came: Came) -> Option<Refusal>
+fn refusal_of(steps: u64, came: Result<SourceRun, ReadRefusal>) -> Option<Refusal>
     ensures { result ≡ refusal_of steps came }
 {
     match came {
-        Came::Refused(refusal) => Some(unread(refusal)),
-        Came::NoMemory => Some(Refusal::NoMemory),
-        Came::Ran(program, ran) => refusal_of_run(steps, program, ran),
+        Ok(SourceRun { program, ran }) => refusal_of_run(steps, program, ran),
+        Err(refusal) => Some(unread(refusal)),
     }
 }
 
@@ -112,7 +116,7 @@ fn refusal_of_ending(program: Program, ending: Ending) -> Option<Refusal>
     }
 }
 
-// The refusal of a source that isn't read.
+// The refusal of a source that isn't read, or for which memory was wanted.
 fn unread(refusal: ReadRefusal) -> Refusal
     ensures { result ≡ runs.unread refusal }
 {

@@ -10,7 +10,7 @@
 ghost use Rattle.std.specs.Prelude.{◌≤◌, vec_len};
 ghost use Rattle.cob_base.specs.Faults.{Rose};
 ghost use Rattle.cob_base.specs.Sink.{sink_call};
-ghost use Rattle.restructure_core.specs.run.Answers.{CameFalls, CameNested, CameOf, CameOver, Comes, ComesOver, IsWriteFault};
+ghost use Rattle.restructure_core.specs.run.Answers.{CameFalls, CameNested, Comes, ComesOver, IsWriteFault};
 ghost use Rattle.restructure_core.specs.run.Bench.{bench_call};
 
 use cob_base::Sink;
@@ -21,28 +21,23 @@ use file_model::Bench;
 use file_model::operations::Shown;
 use std::alloc::Global;
 
-/// What came of a source.
+/// A program that was read, and what came of its run.
 #[derive(Drop)]
-pub enum Came {
-    /// Its program ran.
-    Ran(Program, Ran),
-    /// It is refused; never since memory ran out, which is `NoMemory`.
-    Refused(ReadRefusal),
-    /// Memory ran out before the program ran.
-    NoMemory,
+pub struct SourceRun {
+    pub program: Program,
+    pub ran: Ran,
 }
 
 /// Reads a source and runs its program over a bench for at most so many steps. What the program
 /// displays goes to `out`, in which room is made before each display. Where nothing runs, `bench`
 /// and `out` stay as they are.
-#[tactic(auto, using(crate::proofs::run_lemmas::AnswerLemmas::runs_answer))]
 pub fn run_source<K: Sink>(
     alloc: Global,
     bytes: &[u8],
     bench: &mut Bench,
     out: &mut K,
     steps: u64,
-) -> Came
+) -> Result<SourceRun, ReadRefusal>
     requires within { bench.old.left ≤ vec_len bench.old.devices }
     ensures came { Comes bytes.now steps (sink_call K.held K.faults out.old out.new) result }
     ensures over { ComesOver bytes.now steps (sink_call K.held K.faults out.old out.new)
@@ -55,27 +50,7 @@ pub fn run_source<K: Sink>(
     ensures falls { CameFalls result
         (bench_call ⟦<Bench as Shown>⟧.all bench.old bench.new) }
 {
-    match read(alloc, bytes) {
-        Err(ReadRefusal::NoMemory) => Came::NoMemory,
-        Err(refusal) => Came::Refused(refusal),
-        Ok(program) => run_program(alloc, program, bench, out, steps),
-    }
-}
-
-fn run_program<K: Sink>(
-    alloc: Global,
-    program: Program,
-    bench: &mut Bench,
-    out: &mut K,
-    steps: u64,
-) -> Came
-    ensures came { CameOf program steps (sink_call K.held K.faults out.old out.new) result }
-    ensures over { CameOver program steps (sink_call K.held K.faults out.old out.new)
-        (bench_call ⟦<Bench as Shown>⟧.all bench.old bench.new) result }
-    ensures cause { IsWriteFault result → Rose (K.faults out.old) (K.faults out.new) }
-    ensures falls { CameFalls result
-        (bench_call ⟦<Bench as Shown>⟧.all bench.old bench.new) }
-{
+    let program = read(alloc, bytes)?;
     let ran = run(alloc, &program, bench, out, steps);
-    Came::Ran(program, ran)
+    Ok(SourceRun { program, ran })
 }

@@ -1,17 +1,15 @@
 -- Bytes are read as two programs in one way.
-use Rattle.std.proofs.Common.{ℕ, ◌≡◌, ◌<◌, ◌≤◌, List, length, take, Result, Ok, Err, refl, sym, ap, ◌∙◌, subst, arith}
+use Rattle.std.proofs.Common.{ℕ, ◌≡◌, ◌≤◌, List, length, take, Result, Ok, Err, refl, ap, ◌∙◌, subst, arith}
 use Rattle.std.proofs.lemmas.List.{length-take, take_all}
 use Rattle.std.specs.Prelude.{◌+◌, ◌≢◌}
 use Rattle.cob_base.specs.Limit.{max_source}
 use Rattle.cob_tree.specs.declared.program.Program.{Program}
 use Rattle.cobol_read.specs.declared.refusal.ReadRefusal.{ReadRefusal}
-use Rattle.cobol_read.specs.declared.refusal.ReadRefusal.TheVariants as reading
 use Rattle.cobol_read.specs.Reading.{HasCause, Reads}
 use Rattle.cobol_read.proofs.OneWay.{one_way}
 use Rattle.source_pairs.specs.declared.pair.PairRefusal.{PairRefusal}
 use Rattle.source_pairs.specs.declared.pair.PairRefusal.TheVariants as refusal
 use Rattle.source_pairs.specs.declared.pair.Programs.{Programs}
-use Rattle.source_pairs.specs.Cut.{IsCut, IsUncut}
 use Rattle.source_pairs.specs.Laws.{IsPairAnswer}
 use Rattle.source_pairs.specs.Pair.{HasNoSecond, HasPairCause, IsCutWithin, IsRefusedFor, IsTooLong, ReadsTwo, RefusesFirst, RefusesSecond}
 use Rattle.source_pairs.proofs.CutLemmas.{cut-uncut, cuts-first, cuts-second}

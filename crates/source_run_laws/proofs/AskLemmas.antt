@@ -1,5 +1,5 @@
 -- How a call ends that runs a structured program tells what its nested statements mean.
-use Rattle.std.proofs.Common.{◌≡◌, ℕ, zero, List, [], Option, Some, None, refl, ap, sym, ◌∙◌, subst, inl, inr, append-nil}
+use Rattle.std.proofs.Common.{◌≡◌, ℕ, zero, List, [], Option, Some, None, Ok, Err, refl, ap, sym, ◌∙◌, subst, inl, inr, append-nil}
 use Rattle.cob_base.specs.Source.{SourceCall}
 use Rattle.cob_base.specs.Sink.{SinkCall}
 use Rattle.cob_base.specs.giving.Giving.{Gained, Keeps}
@@ -9,6 +9,7 @@ use Rattle.file_model.specs.operations.Seen as desk
 use Rattle.struct_form.specs.Structured.{IsStructured}
 use Rattle.cobol_theory.specs.cobol_meaning.Runs.{Files, structural_run}
 use Rattle.cobol_read.proofs.OneWay.{one_way}
+use Rattle.cobol_read.specs.declared.refusal.ReadRefusal.TheVariants as rd
 use Rattle.cobol_read.specs.Reading.{Reads}
 use Rattle.cobol_run.specs.declared.machine.Ending.TheVariants as ending
 use Rattle.cobol_run.specs.declared.running.Ran.{Ran}
@@ -16,14 +17,12 @@ use Rattle.cobol_run.specs.declared.running.Ran.TheVariants as ran
 use Rattle.cobol_run.specs.Over.{TellFiles}
 use Rattle.cobol_run.specs.Running.{displayed}
 use Rattle.cobol_run.specs.structured_runs.Shown.{BeginsNested, EndsNestedOver, ShowsNestedOver}
-use Rattle.restructure_core.specs.declared.run.Came.{Came}
-use Rattle.restructure_core.specs.declared.run.Came.TheVariants as came
-use Rattle.restructure_core.specs.run.Answers.{Comes, ComesOver}
+use Rattle.restructure_core.specs.run.Answers.{Came, Comes, ComesOver}
 use Rattle.restructure_core.specs.run.Bench.{BenchCall, devices_after, devices_before}
 use Rattle.restructure_asks.specs.declared.refusal.Refusal.TheVariants as refusal
 use Rattle.restructure_asks.specs.declared.status.Status.{Status}
 use Rattle.restructure_asks.specs.Reading.{Tells}
-use Rattle.restructure_asks.specs.Running.{IsUnrun, TellsCame, refusal_of}
+use Rattle.restructure_asks.specs.Running.{IsUnrun, TellsCame, refusal_of, refusal_of_run}
 use Rattle.restructure_asks.specs.Writing.{Notes}
 use Rattle.source_run_laws.specs.Asks.{AskedResultsShowNested, AskedRunsShowNested, TellsNested}
 use Rattle.source_run_laws.specs.Sources.{SourcesShowNested}
@@ -71,7 +70,7 @@ module _ (program : Program) (files : Files) (out notes : SinkCall) (devices : L
     | inr starved ↦ no-memory-told answer (subst (λ r. Notes r notes answer) starved.0 h.noted) (begins-none h.kept)
   ]
 
-  ran-told : (steps : ℕ) (one : Ran) (answer : Status) → ShowsNestedOver program files out [] devices one → TellsCame (refusal_of steps (came.Ran program one)) notes answer → TellsNested program files out notes devices answer
+  ran-told : (steps : ℕ) (one : Ran) (answer : Status) → ShowsNestedOver program files out [] devices one → TellsCame (refusal_of_run steps program one) notes answer → TellsNested program files out notes devices answer
   ran-told steps (ran.Ended ending.Stopped) answer h g = subst (TellsNested program files out notes devices) (sym g.0) h
   ran-told steps (ran.Ended (ending.Abended abend)) answer h g = abend-told answer abend g h
   ran-told steps (ran.Ended (ending.Faulted fault)) answer h g = absurd h
@@ -82,16 +81,17 @@ module _ (program : Program) (files : Files) (out notes : SinkCall) (devices : L
 
 module _ (shows : SourcesShowNested) (steps : ℕ) (bytes : List ℕ) (program : Program) (reads : Reads bytes program) (structured : IsStructured program) (files : Files) (out notes : SinkCall) (bench : BenchCall) (tells : TellFiles program (devices_before bench) files) (answer : Status) where
   came-told : (c : Came) → Comes bytes steps out c → ComesOver bytes steps out bench c → TellsCame (refusal_of steps c) notes answer → TellsNested program files out notes (devices_after bench) answer
-  came-told (came.Ran other ran) h o g =
-      let same : other ≡ program = one_way.program bytes other program o.0 reads in
-      let run : ComesOver bytes steps out bench (came.Ran program ran) = subst (λ p. ComesOver bytes steps out bench (came.Ran p ran)) same o in
-      ran-told program files out notes (devices_after bench) steps ran answer
-      (shows bytes program steps out bench ran run structured files tells)
-      (subst (λ p. TellsCame (refusal_of steps (came.Ran p ran)) notes answer) same g)
-  came-told (came.Refused why) h o g = absurd (one_way.refused bytes program why reads h.1 h.0)
-  came-told came.NoMemory h o g =
+  came-told (Ok run) h o g =
+      let same : run.program ≡ program = one_way.program bytes run.program program o.0 reads in
+      let there : ComesOver bytes steps out bench (Ok (record { program = program; ran = run.ran })) = subst (λ p. ComesOver bytes steps out bench (Ok (record { program = p; ran = run.ran }))) same o in
+      ran-told program files out notes (devices_after bench) steps run.ran answer
+      (shows bytes program steps out bench run.ran there structured files tells)
+      (subst (λ p. TellsCame (refusal_of_run steps p run.ran) notes answer) same g)
+  came-told (Err rd.NoMemory) h o g =
       no-memory-told program files out notes (devices_after bench) answer g
       (begins-none program files out notes (devices_after bench) h)
+  came-told (Err (rd.Fault fault)) h o g = absurd (one_way.refused bytes program (rd.Fault fault) reads h.1 h.0)
+  came-told (Err (rd.Limit limit)) h o g = absurd (one_way.refused bytes program (rd.Limit limit) reads h.1 h.0)
 
 pub asked-shown : SourcesShowNested → AskedRunsShowNested
 asked-shown shows steps source out notes bench answer (inl h) bytes program files told reads structured tells =

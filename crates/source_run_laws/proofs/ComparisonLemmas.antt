@@ -1,5 +1,5 @@
 -- A source and its result are never told to differ.
-use Rattle.std.proofs.Common.{◌≡◌, ◌∙◌, ℕ, List, take, Option, Some, Result, Ok, Err, refl, ap, sym, subst, inl, inr}
+use Rattle.std.proofs.Common.{◌≡◌, ◌∙◌, ℕ, List, refl, sym, subst, inl, inr}
 use Rattle.std.specs.Prelude.{◌≢◌}
 use Rattle.cob_base.specs.Sink.{SinkCall}
 use Rattle.cob_base.specs.Source.{SourceCall}
@@ -17,7 +17,6 @@ use Rattle.trace_compare.specs.Laws.{ComparedResultsNeverDiffer}
 use Rattle.restructure_core.specs.run.Bench.{BenchCall, devices_before}
 use Rattle.source_pairs.specs.declared.pair.PairRefusal.{PairRefusal}
 use Rattle.source_pairs.specs.declared.pair.PairRefusal.TheVariants as pairs
-use Rattle.source_pairs.specs.Cut.{IsCut}
 use Rattle.source_pairs.specs.Pair.{ReadsTwo}
 use Rattle.source_pairs.proofs.CutLemmas.{cuts-first, cuts-second}
 use Rattle.restructure_asks.specs.declared.refusal.Refusal.{Refusal}
@@ -26,7 +25,7 @@ use Rattle.restructure_asks.specs.declared.status.Status.{Status}
 use Rattle.restructure_asks.specs.declared.status.Status.TheVariants as status
 use Rattle.restructure_asks.specs.declared.texts.Texts.{Texts}
 use Rattle.restructure_asks.specs.Answer.{Answer}
-use Rattle.restructure_asks.specs.Comparing.{AnswersTwo, IsCompared, IsComparedTold, of_pair, same_line, told}
+use Rattle.restructure_asks.specs.Comparing.{AnswersTwo, IsCompared, of_pair, same_line, told}
 use Rattle.restructure_asks.specs.Reading.{Tells}
 use Rattle.restructure_asks.specs.Refusal.{status_of}
 use Rattle.restructure_asks.specs.Running.{IsUnrun}

@@ -18,7 +18,7 @@ use Rattle.program_facts.specs.completion.FlowFacts.{flow_facts_of, never_ends, 
 use Rattle.program_points.specs.numbering.Kind.{has_no_status, never_first_of}
 use Rattle.program_points.specs.paths.Flow.{IsFaulty}
 use Rattle.program_points.proofs.machine_paths_lemmas.SameFaults.{faulty-here}
-use Rattle.cobol_theory.specs.cobol_meaning.Acting.{Memory, acting}
+use Rattle.cobol_theory.specs.cobol_meaning.Acting.{acting}
 use Rattle.cobol_theory.specs.cobol_meaning.Runs.{Files, doing_in, files_left, first_memory, source_run}
 use Rattle.cobol_theory.proofs.cobol_parts_lemmas.Gives.{chooses}
 use Rattle.cobol_theory.proofs.cobol_parts_lemmas.Skips.{skips}

@@ -1,5 +1,5 @@
 -- What sources come to as they are run is what their nested statements mean.
-use Rattle.std.proofs.Common.{◌≡◌, ℕ, List, subst}
+use Rattle.std.proofs.Common.{◌≡◌, ℕ, List, Ok, subst}
 use Rattle.cob_base.specs.Sink.{SinkCall}
 use Rattle.cob_tree.specs.declared.program.Program.{Program}
 use Rattle.control_flow_theory.proofs.language_lemmas.OwnStatements.{paragraphs-own}
@@ -10,7 +10,6 @@ use Rattle.cobol_read.specs.Reading.{Reads}
 use Rattle.cobol_run.specs.declared.running.Ran.{Ran}
 use Rattle.cobol_run.specs.Own.{IsOwn}
 use Rattle.cobol_run.specs.structured_runs.Shown.{RunsShowNestedStatements}
-use Rattle.restructure_core.specs.declared.run.Came.TheVariants as came
 use Rattle.restructure_core.specs.run.Answers.{ComesOver}
 use Rattle.restructure_core.specs.run.Bench.{BenchCall}
 use Rattle.restructure_core.specs.Pipeline.{IsResultText}
@@ -44,10 +43,10 @@ result-read bytes h =
     (made, subst (λ text. Reads text made) h.3 h.2.read_back, h.2.structured)
 
 module _ (shows : SourcesShowNested) (bytes : List ℕ) (program : Program) (reads : Reads bytes program) (structured : IsStructured program) where
-  result-shown : (other : Program) (steps : ℕ) (sink : SinkCall) (bench : BenchCall) (ran : Ran) → ComesOver bytes steps sink bench (came.Ran other ran) → (other ≡ program) × RanAsNested program sink bench ran
+  result-shown : (other : Program) (steps : ℕ) (sink : SinkCall) (bench : BenchCall) (ran : Ran) → ComesOver bytes steps sink bench (Ok (record { program = other; ran = ran })) → (other ≡ program) × RanAsNested program sink bench ran
   result-shown other steps sink bench ran h =
       let same : other ≡ program = one_way.program bytes other program h.0 reads in
-      let run : ComesOver bytes steps sink bench (came.Ran program ran) = subst (λ p. ComesOver bytes steps sink bench (came.Ran p ran)) same h in
+      let run : ComesOver bytes steps sink bench (Ok (record { program = program; ran = ran })) = subst (λ p. ComesOver bytes steps sink bench (Ok (record { program = p; ran = ran }))) same h in
       (same, shows bytes program steps sink bench ran run structured)
 
 pub results-shown : SourcesShowNested → ResultsShowNested

@@ -1,5 +1,5 @@
 -- What sources that are structured programs come to as they are run.
-use Rattle.std.specs.Prelude.{ℕ, ◌≡◌, ◌+◌, ◌*◌, ◌≤◌, true, List, []}
+use Rattle.std.specs.Prelude.{ℕ, ◌≡◌, ◌+◌, ◌*◌, ◌≤◌, true, List, [], Ok}
 use Rattle.cob_base.specs.Sink.{SinkCall}
 use Rattle.cob_tree.specs.declared.program.Program.{Program}
 use Rattle.struct_form.specs.Structured.{IsStructured}
@@ -11,7 +11,6 @@ use Rattle.cobol_run.specs.declared.running.Ran.{Ran}
 use Rattle.cobol_run.specs.Over.{TellFiles}
 use Rattle.cobol_run.specs.PlainTests.{is_plain}
 use Rattle.cobol_run.specs.structured_runs.Shown.{ShowsNested, ShowsNestedOver}
-use Rattle.restructure_core.specs.declared.run.Came.TheVariants as came
 use Rattle.restructure_core.specs.run.Answers.{Comes, ComesOver}
 use Rattle.restructure_core.specs.run.Bench.{BenchCall, devices_after, devices_before}
 use Rattle.restructure_core.specs.Pipeline.{IsResultText}
@@ -28,15 +27,16 @@ RanAsNested program sink bench ran =
 abbrev pub SourcesShowNested : Type 0
 SourcesShowNested =
     (bytes : List ℕ) (program : Program) (steps : ℕ) (sink : SinkCall) (bench : BenchCall)
-    (ran : Ran) → ComesOver bytes steps sink bench (came.Ran program ran) →
+    (ran : Ran) → ComesOver bytes steps sink bench (Ok (record { program = program; ran = ran })) →
     IsStructured program → RanAsNested program sink bench ran
 
 -- where it has no statements on files, over any devices, and whatever the files
 abbrev pub PlainSourcesShowNested : Type 0
 PlainSourcesShowNested =
     (bytes : List ℕ) (program : Program) (steps : ℕ) (sink : SinkCall) (ran : Ran) →
-    Comes bytes steps sink (came.Ran program ran) → is_plain program ≡ true →
-    IsStructured program → (files : Files) → ShowsNested program files sink ran
+    Comes bytes steps sink (Ok (record { program = program; ran = ran })) →
+    is_plain program ≡ true → IsStructured program → (files : Files) →
+    ShowsNested program files sink ran
 
 -- where its nested statements stop within some units, with steps enough it ends so; how many steps
 -- a unit takes is chosen before the files and the units
@@ -47,7 +47,7 @@ SourcesReachNestedEnds =
     (structural_run program files units).standing ≡ Over (Stopped how there) →
     steps_per_unit * (units + 1) ≤ steps →
     (sink : SinkCall) (bench : BenchCall) (ran : Ran) →
-    ComesOver bytes steps sink bench (came.Ran program ran) →
+    ComesOver bytes steps sink bench (Ok (record { program = program; ran = ran })) →
     TellFiles program (devices_before bench) files →
     EndsSo how there (structural_run program files units).trace sink (devices_after bench) ran)
 
@@ -58,5 +58,5 @@ ResultsShowNested =
     (bytes : List ℕ) → IsResultText bytes →
     (program : Program) × Reads bytes program × IsStructured program
     × ((other : Program) (steps : ℕ) (sink : SinkCall) (bench : BenchCall) (ran : Ran) →
-    ComesOver bytes steps sink bench (came.Ran other ran) →
+    ComesOver bytes steps sink bench (Ok (record { program = other; ran = ran })) →
     (other ≡ program) × RanAsNested program sink bench ran)

@@ -6,11 +6,11 @@ use Rattle.cobol_run.proofs.filing.filed.Goals as goal
 
 pub returns-in-Opens-clause-over : goal.returns-in-Opens-clause-over
 returns-in-Opens-clause-over g c = λ world outer over.
-    opens_over (declared_by c.args.plan.now) c.args.stmt.now c.args.held.now.store world _ c.all_opened.result c.all_opened.new.store _ _ c.args.frames.now _ _ c.as_slice.ensures c.in-Opens.is (c.all_opened.ensures.does world over)
+    opens_over (declared_by c.args.plan.now) c.args.stmt.now c.args.held.now.store world _ c.all_opened.result c.all_opened.new.store _ _ c.args.frames.now _ _ c.as_slice-openings.ensures c.in-Opens.is (c.all_opened.ensures.does world over)
 
 pub returns-in-Closes-clause-over : goal.returns-in-Closes-clause-over
 returns-in-Closes-clause-over g c = λ world outer over.
-    closes_over (declared_by c.args.plan.now) c.args.stmt.now c.args.held.now.store world _ c.all_shut.result c.all_shut.new.store _ _ c.args.frames.now _ _ c.as_slice-in-Closes.ensures c.in-Closes.is (c.all_shut.ensures.does world over)
+    closes_over (declared_by c.args.plan.now) c.args.stmt.now c.args.held.now.store world _ c.all_shut.result c.all_shut.new.store _ _ c.args.frames.now _ _ c.as_slice.ensures c.in-Closes.is (c.all_shut.ensures.does world over)
 
 pub returns-in-Write-clause-over : goal.returns-in-Write-clause-over
 returns-in-Write-clause-over g c = λ world outer over.
@@ -26,11 +26,11 @@ returns-in_ok-done-in-Read-clause-over g c = λ world outer over.
 
 pub returns-in-Opens-clause-breaks : goal.returns-in-Opens-clause-breaks
 returns-in-Opens-clause-breaks g c = λ world outer over.
-    opens_break (declared_by c.args.plan.now) c.args.stmt.now c.args.held.now.store world _ c.all_opened.result _ _ _ _ _ c.as_slice.ensures c.in-Opens.is (c.all_opened.ensures.breaks world over)
+    opens_break (declared_by c.args.plan.now) c.args.stmt.now c.args.held.now.store world _ c.all_opened.result _ _ _ _ _ c.as_slice-openings.ensures c.in-Opens.is (c.all_opened.ensures.breaks world over)
 
 pub returns-in-Closes-clause-breaks : goal.returns-in-Closes-clause-breaks
 returns-in-Closes-clause-breaks g c = λ world outer over.
-    closes_break (declared_by c.args.plan.now) c.args.stmt.now c.args.held.now.store world _ c.all_shut.result _ _ _ _ _ c.as_slice-in-Closes.ensures c.in-Closes.is (c.all_shut.ensures.breaks world over)
+    closes_break (declared_by c.args.plan.now) c.args.stmt.now c.args.held.now.store world _ c.all_shut.result _ _ _ _ _ c.as_slice.ensures c.in-Closes.is (c.all_shut.ensures.breaks world over)
 
 pub returns-in-Write-clause-breaks : goal.returns-in-Write-clause-breaks
 returns-in-Write-clause-breaks g c = λ world outer over.
@@ -52,11 +52,11 @@ returns-in_err-done-in-Read-clause-breaks g c = λ world outer over.
 
 pub returns-in-Opens-clause-logged : goal.returns-in-Opens-clause-logged
 returns-in-Opens-clause-logged g c = λ world last outer over.
-    opens_keep (declared_by c.args.plan.now) c.args.stmt.now c.args.held.now.store world c.all_opened.result c.args.work.now c.all_opened.new.work last _ _ c.as_slice.ensures c.in-Opens.is (c.all_opened.ensures.logged world over)
+    opens_keep (declared_by c.args.plan.now) c.args.stmt.now c.args.held.now.store world c.all_opened.result c.args.work.now c.all_opened.new.work last _ _ c.as_slice-openings.ensures c.in-Opens.is (c.all_opened.ensures.logged world over)
 
 pub returns-in-Closes-clause-logged : goal.returns-in-Closes-clause-logged
 returns-in-Closes-clause-logged g c = λ world last outer over.
-    closes_keep (declared_by c.args.plan.now) c.args.stmt.now c.args.held.now.store world c.all_shut.result c.args.work.now c.all_shut.new.work last _ _ c.as_slice-in-Closes.ensures c.in-Closes.is (c.all_shut.ensures.logged world over)
+    closes_keep (declared_by c.args.plan.now) c.args.stmt.now c.args.held.now.store world c.all_shut.result c.args.work.now c.all_shut.new.work last _ _ c.as_slice.ensures c.in-Closes.is (c.all_shut.ensures.logged world over)
 
 pub returns-in-Write-clause-logged : goal.returns-in-Write-clause-logged
 returns-in-Write-clause-logged g c = λ world last outer over.

@@ -14,22 +14,28 @@ returns-in-Nothing-clause-step c =
     let last = last_of self.plan.program.now self.paragraph in
     headed self c.end.new.self c.end.result c.args.head _ (ap (λ head. heads last head (rest_of last self.frames)) c.in-Nothing.is) c.end.ensures.step
 
-pub returns-in_ok-way-in-Stmt-clause-step : goal.returns-in_ok-way-in-Stmt-clause-step
-returns-in_ok-way-in-Stmt-clause-step c =
+pub returns-then-jumps-clause-step : goal.returns-then-jumps-clause-step
+returns-then-jumps-clause-step c =
     let self = c.args.self.now in
     let last = last_of self.plan.program.now self.paragraph in
-    head_goes self c.stmt_way.new.frames c.stmt_way.new.held c.go.new.self c.go.result c.args.head (Do (seen last c.in-Stmt.stmt.now)) c.in_ok-way-in-Stmt.way
-    (ap (λ head. heads last head (rest_of last self.frames)) c.in-Stmt.is)
-    (c.in_ok-way-in-Stmt.ensures.pending self.plan.program.now)
-    (λ world alone. c.in_ok-way-in-Stmt.ensures.way world last (subst (StandsAlone last) c.in-Stmt.is alone, sym c.performed_once.ensures.of ∙ c.in_default.is))
-    c.go.ensures.step
+    headed self c.jump.new.self c.jump.result c.args.head _ (ap (λ head. heads last head (rest_of last self.frames)) c.in-Stmt.is) c.jump.ensures.step
 
-pub returns-in_ok-way-in-Turn-clause-step : goal.returns-in_ok-way-in-Turn-clause-step
-returns-in_ok-way-in-Turn-clause-step c =
+pub returns-in_ok-done-in-Stmt-clause-step : goal.returns-in_ok-done-in-Stmt-clause-step
+returns-in_ok-done-in-Stmt-clause-step c =
     let self = c.args.self.now in
     let last = last_of self.plan.program.now self.paragraph in
-    head_goes self c.turning_way.new.frames c.turning_way.new.held c.go-in-Turn.new.self c.go-in-Turn.result c.args.head (Turn (turning_seen c.in-Turn.turning) (body_seen last c.in-Turn.body)) c.in_ok-way-in-Turn.way
+    head_goes self c.stmt_way.new.frames c.stmt_way.new.held c.args.head (Do (seen last c.in-Stmt.stmt.now)) c.in_ok-done-in-Stmt.done c.step_of.result
+    (ap (λ head. heads last head (rest_of last self.frames)) c.in-Stmt.is)
+    (c.in_ok-done-in-Stmt.ensures.pending self.plan.program.now)
+    (λ world alone. c.in_ok-done-in-Stmt.ensures.way world last (subst (StandsAlone last) c.in-Stmt.is alone, sym c.performed_once.ensures.of ∙ c.in_default.is, sym c.jumps.ensures ∙ c.if-jumps.false))
+    c.step_of.ensures.step
+
+pub returns-in_ok-done-in-Turn-clause-step : goal.returns-in_ok-done-in-Turn-clause-step
+returns-in_ok-done-in-Turn-clause-step c =
+    let self = c.args.self.now in
+    let last = last_of self.plan.program.now self.paragraph in
+    head_goes self c.turning_way.new.frames c.turning_way.new.held c.args.head (Turn (turning_seen c.in-Turn.turning) (body_seen last c.in-Turn.body)) c.in_ok-done-in-Turn.done c.step_of-in-Turn.result
     (ap (λ head. heads last head (rest_of last self.frames)) c.in-Turn.is)
-    (c.in_ok-way-in-Turn.ensures.pending self.plan.program.now)
-    (λ world alone. c.in_ok-way-in-Turn.ensures.way world last ∙ turn_led (declared_by self.plan) last c.in-Turn.turning (body_seen last c.in-Turn.body) (rest_of last self.frames) (memory_in self.held.store world) (subst (StandsAlone last) c.in-Turn.is alone))
-    c.go-in-Turn.ensures.step
+    (c.in_ok-done-in-Turn.ensures.pending self.plan.program.now)
+    (λ world alone. c.in_ok-done-in-Turn.ensures.way world last ∙ turn_led (declared_by self.plan) last c.in-Turn.turning (body_seen last c.in-Turn.body) (rest_of last self.frames) (memory_in self.held.store world) (subst (StandsAlone last) c.in-Turn.is alone))
+    c.step_of-in-Turn.ensures.step
