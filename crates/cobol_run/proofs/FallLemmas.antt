@@ -1,9 +1,9 @@
 -- What steps leave of the devices of a bench.
-use Rattle.std.proofs.Common.{◌≡◌, ℕ, List, [], ◌∷◌, ◌-◌, Option, IfErr, IfOk, Result, Ok, Err, refl, slice_get}
+use Rattle.std.proofs.Common.{◌≡◌, ℕ, List, [], ◌-◌, IfErr, IfOk, Result, Ok, Err, refl}
 use Rattle.cob_base.specs.declared.memory.NoMemory.{NoMemory}
 use Rattle.cob_act.specs.declared.acting.ActOutcome.{ActOutcome}
 use Rattle.cob_act.specs.declared.acting.ActOutcome.TheVariants as dones
-use Rattle.cob_act.specs.files.Ends.{BrokeOver, DoneOver}
+use Rattle.cob_act.specs.files.Ends.{DoneOver}
 use Rattle.file_model.specs.declared.operations.fault.FileFault.{FileFault}
 use Rattle.file_model.specs.declared.operations.fault.FileFault.TheVariants as faults
 use Rattle.cob_tree.specs.declared.file.FileEntry.{FileEntry}
@@ -15,8 +15,7 @@ use Rattle.file_model.proofs.operations_lemmas.FallLemmas.{left_same, left_then}
 use Rattle.file_model.proofs.operations_lemmas.ShutLemmas.{nothing_shut}
 use Rattle.cobol_run.specs.declared.machine.StepOutcome.{StepOutcome}
 use Rattle.cobol_run.specs.declared.machine.StepOutcome.TheVariants as step
-use Rattle.cobol_run.specs.declared.running.Turned.{Turned}
-use Rattle.cobol_run.specs.declared.running.Turned.TheVariants as turned
+use Rattle.cobol_run.specs.declared.running.Ran.{Ran}
 use Rattle.cobol_run.specs.Falling.{SameBench, StepFalls, TurnFalls}
 use Rattle.cobol_run.specs.Over.{step_done}
 
@@ -44,14 +43,6 @@ pub asks_none : (result : Result StepOutcome NoMemory) (files : List FileEntry) 
 asks_none (Ok made) files left devices table live = live_falls made files left devices table live
 asks_none (Err e) files left devices table live = left_same (is_used (addresses_of files)) left devices
 
--- a turn and those before it
-pub turn_after : (made : Turned) (files : List FileEntry) (left mid now : ℕ) (old between new : List Seen) (table : List FileRow) → SameBench files left mid old between → TurnFalls made files mid now between new table → TurnFalls made files left now old new table
-turn_after turned.On files left mid now old between new table one two = left_then (is_used (addresses_of files)) [] left mid now old between new one two
-turn_after (turned.Over ending) files left mid now old between new table one two = left_then (is_used (addresses_of files)) [] left mid now old between new one two
-turn_after turned.Failed files left mid now old between new table one two = (left_then (is_used (addresses_of files)) _ left mid now old between new one two.0, two.1)
-turn_after turned.WriteFault files left mid now old between new table one two = left_then (is_used (addresses_of files)) [] left mid now old between new one two
-turn_after turned.NoMemory files left mid now old between new table one two = left_then (is_used (addresses_of files)) [] left mid now old between new one two
-
 -- no device failed
 pub none_fell : (files : List FileEntry) (left : ℕ) (devices : List Seen) → SameBench files left left devices devices
 none_fell files left devices = left_same (is_used (addresses_of files)) left devices
@@ -63,3 +54,8 @@ step_after (Ok step.Shown) files left mid now old between new table one two = le
 step_after (Ok (step.Over ending)) files left mid now old between new table one two = left_then (is_used (addresses_of files)) [] left mid now old between new one two
 step_after (Ok step.Failed) files left mid now old between new table one two = (left_then (is_used (addresses_of files)) _ left mid now old between new one two.0, two.1)
 step_after (Err e) files left mid now old between new table one two = left_then (is_used (addresses_of files)) [] left mid now old between new one two
+
+-- a turn and those before it
+pub turn_after : (made : Result StepOutcome Ran) (files : List FileEntry) (left mid now : ℕ) (old between new : List Seen) (table : List FileRow) → SameBench files left mid old between → TurnFalls made files mid now between new table → TurnFalls made files left now old new table
+turn_after (Ok made) files left mid now old between new table one two = step_after (Ok made) files left mid now old between new table one two
+turn_after (Err came) files left mid now old between new table one two = left_then (is_used (addresses_of files)) [] left mid now old between new one two

@@ -38,5 +38,6 @@ pub mod FallLemmas
 pub mod ShutLemmas
 -- a run whose events are kept
 pub mod TrackLemmas
+pub mod TurnLemmas
 -- What a run of a structured program shows is what its nested statements show.
 pub mod structured_runs_lemmas

@@ -7,7 +7,7 @@ use Rattle.cob_base.specs.declared.memory.NoMemory.{NoMemory}
 use Rattle.cob_tree.specs.declared.program.Paragraph.{Paragraph}
 use Rattle.cob_tree.specs.declared.program.Program.{Program}
 use Rattle.file_model.specs.World.{World}
-use Rattle.control_flow_theory.specs.semantics.Outcome.{Trace, Tried, Got, Ends}
+use Rattle.control_flow_theory.specs.semantics.Outcome.{Trace, Tried, Got}
 use Rattle.control_flow_theory.specs.semantics.Source as source
 use Rattle.cob_act.specs.Acting.{is_inner}
 use Rattle.cob_tree.specs.declared.stmt.Stmt.{Stmt}

@@ -5,12 +5,11 @@ use Rattle.std.proofs.lemmas.Bool.{cases_lt}
 use Rattle.std.specs.Str.{bytes_eq}
 use Rattle.file_model.specs.declared.table.FileRow.{FileRow}
 use Rattle.file_model.specs.Attempts.{Address}
-use Rattle.file_model.specs.Told.{Counts}
 use Rattle.file_model.specs.World.{World}
 use Rattle.file_model.specs.operations.Calls.{addresses_of}
 use Rattle.file_model.specs.operations.Falling.{AreShut, Failed, FailedAs, LeftOf, is_used}
 use Rattle.file_model.specs.operations.Seen.{Seen, device_found}
-use Rattle.file_model.specs.operations.Shutting.{Closes, LeavesFiles, OpenIn, StandsLeft, are_some}
+use Rattle.file_model.specs.operations.Shutting.{Closes, LeavesFiles, StandsLeft, are_some}
 use Rattle.file_model.specs.operations.Standing.{SameShelf}
 use Rattle.cob_base.specs.Sink.{SinkCall}
 use Rattle.cob_tree.specs.declared.file.FileEntry.{FileEntry}
@@ -21,7 +20,7 @@ use Rattle.cobol_run.specs.declared.running.Ran.{Ran}
 use Rattle.cobol_run.specs.declared.running.Ran.TheVariants as ran
 use Rattle.cobol_run.specs.Falling.{FellNamed, Names, NamesDevice, NamesFit, RunFalls, breaks_off}
 use Rattle.cobol_run.specs.Filing.{is_open, some_open}
-use Rattle.cobol_run.specs.Over.{ComesTo, FilesEnd, OpenYet, SoFarOver, StepsEnd}
+use Rattle.cobol_run.specs.Over.{ComesTo, FilesEnd, OpenYet, StepsEnd}
 use Rattle.file_model.proofs.operations_lemmas.FileLemmas.{name_same}
 use Rattle.file_model.proofs.operations_lemmas.FallLemmas.{left_same}
 use Rattle.file_model.proofs.operations_lemmas.ShutLemmas.{nothing_shut}

@@ -1,5 +1,5 @@
 -- A run whose events are kept, step by step.
-use Rattle.std.proofs.Common.{◌≡◌, ◌∙◌, sym, subst, ap, refl, ℕ, suc, ◌+◌, ◌-◌, ◌<◌, ◌≤◌, ◌^◌, arith, Bool, true, IsTrue, List, [], ◌∷◌, ◌++◌, length, replicate, take, Option, None, Result, Ok, Err, slice_get}
+use Rattle.std.proofs.Common.{◌≡◌, ◌∙◌, sym, subst, ap, refl, ℕ, suc, ◌+◌, ◌-◌, ◌<◌, ◌≤◌, ◌^◌, arith, Bool, IsTrue, List, [], ◌∷◌, ◌++◌, length, replicate, take, Option, None, Result, Ok, Err, slice_get}
 use Rattle.std.specs.Prelude.{IfOk, IfSome}
 use Rattle.cob_base.specs.declared.memory.NoMemory.{NoMemory}
 use Rattle.file_model.specs.declared.operations.fault.FileFault.TheVariants as faults
@@ -21,11 +21,10 @@ use Rattle.cobol_theory.specs.cobol_meaning.Runs.{Files, State, begun_in, world_
 use Rattle.cobol_run.specs.declared.machine.Machine.{Machine}
 use Rattle.cobol_run.specs.declared.machine.StepOutcome.{StepOutcome}
 use Rattle.cobol_run.specs.declared.machine.StepOutcome.TheVariants as step
-use Rattle.cobol_run.specs.declared.running.Ran.{Ran}
 use Rattle.cobol_run.specs.declared.running.Ran.TheVariants as ran
 use Rattle.cobol_run.specs.declared.events.Finished.TheVariants as finished
 use Rattle.cobol_run.specs.Events.{Ended, FinishFalls, FinishNames, Finishes, LeftSoFar, Shows, Tracks, TracksOn, finished_by, step_events}
-use Rattle.cobol_run.specs.Falling.{FellNamed, NamesDevice, NamesFit, SameBench}
+use Rattle.cobol_run.specs.Falling.{FellNamed, NamesFault, SameBench}
 use Rattle.cobol_run.specs.Machine.{ending_seen, state_in, steps_by}
 use Rattle.cobol_run.specs.Over.{FollowsOver, SoFarOver, StandsOver, TellFiles}
 use Rattle.cobol_run.specs.Own.{IsOwn, OwnState}
@@ -122,23 +121,17 @@ module _ (files : List FileEntry) (left now : ℕ) (old new : List Seen) where
   none_left [] still so = refl
   none_left (name ∷ names) still so = let count : now + length (name ∷ names) ≡ left = so.count in absurd (omega (arith, still, count))
 
-  names_finish : (came : Ran) (room at : ℕ) (later : List (List ℕ)) (last : List ℕ) → LeftOf (is_used (addresses_of files)) (later ++ last ∷ []) left now old new → at ≡ left - 1 → NamesDevice room came (slice_get new at) → FinishNames (finished_by came) (later ++ last ∷ [])
-  names_finish (ran.Ended ending) room at later last so is named = tt
-  names_finish ran.Budget room at later last so is named = tt
-  names_finish ran.WriteFault room at later last so is named = tt
-  names_finish ran.NoMemory room at later last so is named = tt
-  names_finish (ran.DeviceFault name) room at later last so is named = names_last room (ran.DeviceFault name) (is_used (addresses_of files)) later last left now at old new so is named
+  names_finish : (came : Result (List ℕ) NoMemory) (room at : ℕ) (later : List (List ℕ)) (last : List ℕ) → LeftOf (is_used (addresses_of files)) (later ++ last ∷ []) left now old new → at ≡ left - 1 → NamesFault room came (slice_get new at) → FinishNames (finished_by came) (later ++ last ∷ [])
+  names_finish (Err e) room at later last so is named = tt
+  names_finish (Ok name) room at later last so is named = names_last room (ran.DeviceFault name) (is_used (addresses_of files)) later last left now at old new so is named
 
   some_gone : (names : List (List ℕ)) → now < left → LeftOf (is_used (addresses_of files)) names left now old new → Ends names
   some_gone [] less so = let count : now + 0 ≡ left = so.count in absurd (omega (arith, less, count))
   some_gone (name ∷ names) less so = ends_of (name ∷ names) refl
 
-  named_by : (came : Ran) (room : ℕ) (later : List (List ℕ)) (last : List ℕ) → LeftOf (is_used (addresses_of files)) (later ++ last ∷ []) left now old new → NamesDevice room came (slice_get new (left - 1)) → FinishFalls (finished_by came) room files left now old new
-  named_by (ran.Ended ending) room later last so named = absurd named
-  named_by ran.Budget room later last so named = absurd named
-  named_by ran.WriteFault room later last so named = absurd named
-  named_by ran.NoMemory room later last so named = λ fits. never_unnamed room ran.NoMemory (is_used (addresses_of files)) later last left now (left - 1) old new fits so refl named refl
-  named_by (ran.DeviceFault name) room later last so named =
+  named_by : (came : Result (List ℕ) NoMemory) (room : ℕ) (later : List (List ℕ)) (last : List ℕ) → LeftOf (is_used (addresses_of files)) (later ++ last ∷ []) left now old new → NamesFault room came (slice_get new (left - 1)) → FinishFalls (finished_by came) room files left now old new
+  named_by (Err e) room later last so named = λ fits. never_unnamed room ran.NoMemory (is_used (addresses_of files)) later last left now (left - 1) old new fits so refl named refl
+  named_by (Ok name) room later last so named =
       let fell : FellNamed last left now old new = fell_named (is_used (addresses_of files)) later last left now old new so in
       let same : fell.after.name ≡ name = subst (λ (o : Option Seen). IfSome o (λ (d : Seen). d.name ≡ name)) fell.there named in
       subst (λ (n : List ℕ). FellNamed n left now old new) (sym fell.named ∙ same) fell
@@ -158,7 +151,7 @@ module _ (files : List FileEntry) (left now : ℕ) (old new : List Seen) where
       leaves = closed.files;
     }
 
-    pub ends_named : (came : Ran) (room at : ℕ) → now < left → at ≡ left - 1 → NamesDevice room came (slice_get new at) → Finishes (finished_by came) files so.gone left now old new (take mid between) rows
+    pub ends_named : (came : Result (List ℕ) NoMemory) (room at : ℕ) → now < left → at ≡ left - 1 → NamesFault room came (slice_get new at) → Finishes (finished_by came) files so.gone left now old new (take mid between) rows
     ends_named came room at less is named =
         let e : Ends (closed.more ++ so.gone) = some_gone (closed.more ++ so.gone) less closed.left_of in record {
           all = closed.more ++ so.gone;
@@ -172,9 +165,9 @@ module _ (files : List FileEntry) (left now : ℕ) (old new : List Seen) where
     pub finish_whole : left ≤ now → SameBench files left now old new
     finish_whole still = none_gone (closed.more ++ so.gone) still closed.left_of
 
-    pub finish_named : (came : Ran) (room at : ℕ) → now < left → at ≡ left - 1 → NamesDevice room came (slice_get new at) → FinishFalls (finished_by came) room files left now old new
+    pub finish_named : (came : Result (List ℕ) NoMemory) (room at : ℕ) → now < left → at ≡ left - 1 → NamesFault room came (slice_get new at) → FinishFalls (finished_by came) room files left now old new
     finish_named came room at less is named =
         let e : Ends (closed.more ++ so.gone) = some_gone (closed.more ++ so.gone) less closed.left_of in
         named_by came room e.later e.last
         (subst (λ (l : List (List ℕ)). LeftOf (is_used (addresses_of files)) l left now old new) e.is closed.left_of)
-        (subst (λ (n : ℕ). NamesDevice room came (slice_get new n)) is named)
+        (subst (λ (n : ℕ). NamesFault room came (slice_get new n)) is named)

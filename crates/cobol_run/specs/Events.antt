@@ -24,8 +24,6 @@ use Rattle.cobol_run.specs.declared.machine.StepOutcome.{StepOutcome}
 use Rattle.cobol_run.specs.declared.machine.StepOutcome.TheVariants as step
 use Rattle.cobol_run.specs.declared.events.Finished.{Finished}
 use Rattle.cobol_run.specs.declared.events.Finished.TheVariants as finished
-use Rattle.cobol_run.specs.declared.running.Ran.{Ran}
-use Rattle.cobol_run.specs.declared.running.Ran.TheVariants as ran
 use Rattle.cobol_run.specs.Falling.{FellNamed, NamesFit, SameBench}
 use Rattle.cobol_run.specs.Machine.{ending_seen, state_in}
 use Rattle.cobol_run.specs.Over.{StandsOver}
@@ -119,10 +117,10 @@ pub record LeftSoFar (files : List FileEntry) (left left_now : ℕ) (old new : L
   -- no file on a device that failed is open
   pub apart : AreShut gone (addresses_of files) table
 
--- how the devices came out, where this is the answer to a device that failed
-abbrev pub finished_by : Ran → Finished
-finished_by (ran.DeviceFault name) = finished.DeviceFault name
-finished_by _ = finished.NoMemory
+-- how the devices came out where one failed first: its name, for which there may be no room
+abbrev pub finished_by : Result (List ℕ) NoMemory → Finished
+finished_by (Ok name) = finished.DeviceFault name
+finished_by (Err e) = finished.NoMemory
 
 -- these devices failed, by how they came out: none, or first the one that is named
 abbrev pub FinishNames : Finished → List (List ℕ) → Type 0

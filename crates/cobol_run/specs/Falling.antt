@@ -11,8 +11,6 @@ use Rattle.file_model.specs.declared.operations.fault.FileFault.TheVariants as f
 use Rattle.cob_act.specs.files.Ends.{BrokeOver}
 use Rattle.cobol_run.specs.declared.machine.StepOutcome.{StepOutcome}
 use Rattle.cobol_run.specs.declared.machine.StepOutcome.TheVariants as step
-use Rattle.cobol_run.specs.declared.running.Turned.{Turned}
-use Rattle.cobol_run.specs.declared.running.Turned.TheVariants as turned
 use Rattle.cobol_run.specs.declared.running.Ran.{Ran}
 use Rattle.cobol_run.specs.declared.running.Ran.TheVariants as ran
 
@@ -32,17 +30,12 @@ StepFalls (Ok step.Failed) files left left_now old new table =
     BrokeOver faults.Device files left left_now old new table
 StepFalls (Err e) files left left_now old new table = SameBench files left left_now old new
 
--- what one more step leaves of the devices
-abbrev pub TurnFalls : Turned → List FileEntry → (left left_now : ℕ) → (old new : List Seen) →
-    List FileRow → Type 0
-TurnFalls turned.On files left left_now old new table = SameBench files left left_now old new
-TurnFalls (turned.Over ending) files left left_now old new table =
-    SameBench files left left_now old new
-TurnFalls turned.Failed files left left_now old new table =
-    BrokeOver faults.Device files left left_now old new table
-TurnFalls turned.WriteFault files left left_now old new table =
-    SameBench files left left_now old new
-TurnFalls turned.NoMemory files left left_now old new table = SameBench files left left_now old new
+-- what one more step, with its display, leaves of the devices: where it broke off no device failed
+abbrev pub TurnFalls : Result StepOutcome Ran → List FileEntry → (left left_now : ℕ) →
+    (old new : List Seen) → List FileRow → Type 0
+TurnFalls (Ok made) files left left_now old new table =
+    StepFalls (Ok made) files left left_now old new table
+TurnFalls (Err came) files left left_now old new table = SameBench files left left_now old new
 
 -- ---- a device fault
 
@@ -84,6 +77,11 @@ RunFalls ran.NoMemory left left_now old new = Unit {0}
 abbrev pub NamesFit : ℕ → List Seen → Type 0
 NamesFit room devices = (at : ℕ) (device : Seen) → slice_get devices at ≡ Some device →
     length device.name ≤ room
+
+-- the name of this device, or there was no room for it in so many bytes
+abbrev pub NamesFault : ℕ → Result (List ℕ) NoMemory → Option Seen → Type 0
+NamesFault room (Ok name) device = IfSome device (λ d. d.name ≡ name)
+NamesFault room (Err e) device = IfSome device (λ d. room < length d.name)
 
 -- a device fault with the name of this device, or there was no room for it in so many bytes
 abbrev pub NamesDevice : ℕ → Ran → Option Seen → Type 0

@@ -39,8 +39,6 @@ use Rattle.cobol_run.specs.declared.machine.StepOutcome.{StepOutcome}
 use Rattle.cobol_run.specs.declared.machine.StepOutcome.TheVariants as step
 use Rattle.cobol_run.specs.declared.running.Ran.{Ran}
 use Rattle.cobol_run.specs.declared.running.Ran.TheVariants as ran
-use Rattle.cobol_run.specs.declared.running.Turned.{Turned}
-use Rattle.cobol_run.specs.declared.running.Turned.TheVariants as turned
 use Rattle.cobol_run.specs.Frames.{last_of, rest_of}
 use Rattle.cobol_run.specs.Machine.{ending_seen, rest_in, state_in}
 use Rattle.cobol_run.specs.Plan.{declared_by, memory_in}
@@ -204,23 +202,22 @@ abbrev pub OpenYet : List (List ℕ) → Machine → List Seen → World → Typ
 OpenYet gone machine devices world =
     StandsLeft (addresses_of machine.plan.program.now.files) gone devices machine.table.rows world
 
--- what one more step comes to
-abbrev pub TurnsOver : Program → Files → Machine → (left : ℕ) → List Seen → ℕ → SinkCall → Turned →
-    Type 0
-TurnsOver program files machine left devices done sink turned.On =
+-- what one more step, with its display, comes to
+abbrev pub TurnsOver : Program → Files → Machine → (left : ℕ) → List Seen → ℕ → SinkCall →
+    Result StepOutcome Ran → Type 0
+TurnsOver program files machine left devices done sink (Ok step.On) =
     SoFarOver program files machine (take left devices) (suc done) sink
-TurnsOver program files machine left devices done sink (turned.Over ending) =
+TurnsOver program files machine left devices done sink (Ok step.Shown) =
+    SoFarOver program files machine (take left devices) (suc done) sink
+TurnsOver program files machine left devices done sink (Ok (step.Over ending)) =
     (steps : ℕ) → done < steps →
     EndsAt program files steps sink (OpenYet [] machine (take left devices)) ending
-TurnsOver program files machine left devices done sink turned.Failed =
+TurnsOver program files machine left devices done sink (Ok step.Failed) =
     (steps : ℕ) → done < steps → BreaksAt program files steps sink
     (OpenYet (gone_by faults.Device left devices) machine (take left devices))
-TurnsOver program files machine left devices done sink turned.WriteFault =
+TurnsOver program files machine left devices done sink (Err came) =
     (steps : ℕ) → done < steps →
-    CutAt program files steps sink (OpenYet [] machine (take left devices))
-TurnsOver program files machine left devices done sink turned.NoMemory =
-    (steps : ℕ) → done < steps →
-    BreaksAt program files steps sink (OpenYet [] machine (take left devices))
+    ComesTo program files steps sink (OpenYet [] machine (take left devices)) came
 
 -- ---- a run
 

@@ -1,5 +1,5 @@
 -- What a run comes to.
-use Rattle.std.specs.Prelude.{ℕ, zero, suc, ◌≡◌, ◌<◌, ◌≤◌, List, [], ◌∷◌, ◌++◌, take, Option}
+use Rattle.std.specs.Prelude.{ℕ, zero, suc, ◌≡◌, ◌<◌, ◌≤◌, List, [], ◌∷◌, ◌++◌, take, Option, Result, Ok, Err}
 use Rattle.cob_base.specs.Sink.{SinkCall}
 use Rattle.cob_tree.specs.declared.program.Program.{Program}
 use Rattle.control_flow_theory.specs.runs.Run.{Going, Over}
@@ -12,8 +12,8 @@ use Rattle.cob_base.specs.giving.Giving.{Gained, Gains}
 use Rattle.cobol_run.specs.declared.running.Ran.{Ran}
 use Rattle.cobol_run.specs.declared.running.Ran.TheVariants as ran
 use Rattle.cobol_run.specs.declared.machine.Machine.{Machine}
-use Rattle.cobol_run.specs.declared.running.Turned.{Turned}
-use Rattle.cobol_run.specs.declared.running.Turned.TheVariants as turned
+use Rattle.cobol_run.specs.declared.machine.StepOutcome.{StepOutcome}
+use Rattle.cobol_run.specs.declared.machine.StepOutcome.TheVariants as step
 use Rattle.cobol_run.specs.Machine.{ending_seen, state_in}
 use Rattle.cobol_run.specs.Plain.{IsPlain}
 use Rattle.cobol_run.specs.Plan.{declared_by}
@@ -80,19 +80,17 @@ pub record SoFar (program : Program) (machine : Machine) (done : ℕ) (sink : Si
       (after program files done ≡ state_in machine (world_with (declared_in program) files) trace)
       × Gained (displayed trace) sink.held sink.now
 
--- what one more step comes to
-abbrev pub TurnsTo : Program → Machine → ℕ → SinkCall → Turned → Type 0
-TurnsTo program machine done sink turned.On = SoFar program machine (suc done) sink
-TurnsTo program machine done sink (turned.Over ending) =
+-- what one more step, with its display, comes to
+abbrev pub TurnsTo : Program → Machine → ℕ → SinkCall → Result StepOutcome Ran → Type 0
+TurnsTo program machine done sink (Ok step.On) = SoFar program machine (suc done) sink
+TurnsTo program machine done sink (Ok step.Shown) = SoFar program machine (suc done) sink
+TurnsTo program machine done sink (Ok (step.Over ending)) =
     (steps : ℕ) (files : Files) → done < steps → IsPlain program →
     RunsAs program files steps sink (ran.Ended ending)
-TurnsTo program machine done sink turned.Failed = (files : Files) → IsPlain program → ⊥
-TurnsTo program machine done sink turned.WriteFault =
+TurnsTo program machine done sink (Ok step.Failed) = (files : Files) → IsPlain program → ⊥
+TurnsTo program machine done sink (Err came) =
     (steps : ℕ) (files : Files) → done < steps → IsPlain program →
-    RunsAs program files steps sink ran.WriteFault
-TurnsTo program machine done sink turned.NoMemory =
-    (steps : ℕ) (files : Files) → done < steps → IsPlain program →
-    RunsAs program files steps sink ran.NoMemory
+    RunsAs program files steps sink came
 
 -- a sink that held this, and failed so often, at the start of the run
 abbrev pub since : Option (List ℕ) → ℕ → Option (List ℕ) → ℕ → SinkCall

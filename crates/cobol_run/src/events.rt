@@ -14,12 +14,12 @@ ghost use Rattle.file_model.specs.operations.Calls.{addresses_of};
 ghost use Rattle.file_model.specs.operations.Falling.{AreShut, LeftOf, is_used};
 ghost use Rattle.file_model.specs.operations.Seen.{Seen};
 ghost use Rattle.cobol_run.specs.Events.{FinishFalls, Finishes, LeftSoFar, Tracks, TracksOn, finished_by};
-ghost use Rattle.cobol_run.specs.Falling.{NamesFit, SameBench, StepFalls};
+ghost use Rattle.cobol_run.specs.Falling.{SameBench, StepFalls};
 ghost use Rattle.cobol_run.specs.Over.{TellFiles};
 ghost use Rattle.cobol_run.specs.Own.{IsOwn};
 
 use crate::machine::{Machine, StepOutcome};
-use crate::running::{Ran, device_fault, start};
+use crate::running::{fault_name, start};
 use cob_act::files::close_left;
 use cob_base::{NoMemory, Text};
 use cob_tree::Program;
@@ -70,15 +70,12 @@ pub enum Finished {
     NoMemory,
 }
 
-fn finished_by(ran: Ran) -> Finished
-    ensures { result ≡ finished_by ran }
+fn finished_by(name: Result<Text, NoMemory>) -> Finished
+    ensures { result ≡ finished_by name }
 {
-    match ran {
-        Ran::DeviceFault(name) => Finished::DeviceFault(name),
-        Ran::Ended(_) => Finished::NoMemory,
-        Ran::Budget => Finished::NoMemory,
-        Ran::WriteFault => Finished::NoMemory,
-        Ran::NoMemory => Finished::NoMemory,
+    match name {
+        Ok(name) => Finished::DeviceFault(name),
+        Err(NoMemory) => Finished::NoMemory,
     }
 }
 
@@ -110,6 +107,6 @@ pub fn finish(
     if bench.left >= left {
         return Finished::Whole;
     }
-    let failed = device_fault(alloc, room, bench, left - 1);
+    let failed = fault_name(alloc, room, bench, left - 1);
     finished_by(failed)
 }

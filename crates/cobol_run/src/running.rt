@@ -1,6 +1,6 @@
 //! A whole run.
 
-ghost use Rattle.std.specs.Prelude.{◌≡◌, ◌≢◌, ◌<◌, ◌≤◌, vec_capacity, vec_len, ◌^◌, [], ℕ, List, IfOk, IfSome, false, length, replicate, slice_get};
+ghost use Rattle.std.specs.Prelude.{◌≡◌, ◌≢◌, ◌<◌, ◌≤◌, vec_capacity, vec_len, ◌^◌, [], ℕ, Err, List, IfErr, IfOk, IfSome, false, length, replicate, slice_get};
 ghost use Rattle.std.specs.declared.option.Option.{Option};
 ghost use Rattle.cob_tree.specs.declared.program.Program.{Program};
 ghost use Rattle.cob_base.specs.Faults.{Rose};
@@ -10,7 +10,7 @@ ghost use Rattle.cobol_theory.specs.cobol_meaning.Runs.{Files, begun_in, world_w
 ghost use Rattle.file_model.specs.Status.{closed_row};
 ghost use Rattle.file_model.specs.operations.Seen.{Seen};
 ghost use Rattle.cobol_run.specs.declared.machine.Machine.{Machine};
-ghost use Rattle.cobol_run.specs.Falling.{NamesDevice, NamesFit, RunFalls, TurnFalls, breaks_off};
+ghost use Rattle.cobol_run.specs.Falling.{Names, NamesDevice, NamesFault, NamesFit, RunFalls, TurnFalls, breaks_off};
 ghost use Rattle.cobol_run.specs.Filing.{some_open};
 ghost use Rattle.cobol_run.specs.Machine.{state_in};
 ghost use Rattle.cobol_run.specs.Over.{FilesEnd, RunEnds, SoFarOver, StepsEnd, TurnsOver};
@@ -93,19 +93,13 @@ pub fn start<'a>(alloc: Global, program: &'a Program) -> Result<Machine<'a>, NoM
     Ok(machine)
 }
 
-/// What a step, with its display, comes to.
-#[derive(Clone, Copy)]
-pub enum Turned {
-    On,
-    Over(Ending),
-    /// A device failed, and is the first one after those on the bench.
-    Failed,
-    WriteFault,
-    NoMemory,
-}
-
-// Makes a step, and writes what it displays to the sink.
-fn make_turn<K: Sink>(machine: &mut Machine, bench: &mut Bench, out: &mut K) -> Turned
+// Makes a step, and writes what it displays to the sink. An error is what the run came to where that
+// broke off.
+fn make_turn<K: Sink>(
+    machine: &mut Machine,
+    bench: &mut Bench,
+    out: &mut K,
+) -> Result<StepOutcome, Ran>
     ensures turned { (program : Program) (done : ℕ) (held : Option (List ℕ)) (count : ℕ) →
         SoFar program machine.old done (since held count (K.held out.old) (K.faults out.old)) →
         TurnsTo program machine.new done (since held count (K.held out.new) (K.faults out.new))
@@ -118,7 +112,8 @@ fn make_turn<K: Sink>(machine: &mut Machine, bench: &mut Bench, out: &mut K) -> 
         (since held count (K.held out.old) (K.faults out.old)) →
         TurnsOver program files machine.new bench.new.left (⟦<Bench as Shown>⟧.all bench.new) done
         (since held count (K.held out.new) (K.faults out.new)) result }
-    ensures cause { result ≡ Turned.WriteFault → Rose (K.faults out.old) (K.faults out.new) }
+    ensures cause { result ≡ Err Ran.WriteFault → Rose (K.faults out.old) (K.faults out.new) }
+    ensures unnamed { IfErr result (λ came. Names came []) }
     ensures later { K.faults out.old ≤ K.faults out.new }
     ensures plan { machine.new.plan ≡ machine.old.plan }
     ensures falls { TurnFalls result machine.old.plan.program.now.files
@@ -131,19 +126,19 @@ fn make_turn<K: Sink>(machine: &mut Machine, bench: &mut Bench, out: &mut K) -> 
         (bench.new ≡ bench.old) × (machine.new.table ≡ machine.old.table) }
 {
     match machine.step(bench) {
-        Err(_) => Turned::NoMemory,
-        Ok(StepOutcome::On) => Turned::On,
-        Ok(StepOutcome::Over(ending)) => Turned::Over(ending),
-        Ok(StepOutcome::Failed) => Turned::Failed,
+        Err(_) => Err(Ran::NoMemory),
+        Ok(StepOutcome::On) => Ok(StepOutcome::On),
+        Ok(StepOutcome::Over(ending)) => Ok(StepOutcome::Over(ending)),
+        Ok(StepOutcome::Failed) => Ok(StepOutcome::Failed),
         Ok(StepOutcome::Shown) => {
             let shown = machine.held.shown.as_slice();
             if out.ready(shown.len()).is_err() {
-                return Turned::NoMemory;
+                return Err(Ran::NoMemory);
             }
             if give_all(out, shown) {
-                return Turned::On;
+                return Ok(StepOutcome::Shown);
             }
-            Turned::WriteFault
+            Err(Ran::WriteFault)
         }
     }
 }
@@ -178,20 +173,34 @@ fn add_room(room: &mut Vec<u8>, bench: &Bench, at: usize) -> Result<(), NoMemory
     Ok(())
 }
 
-/// The answer where the device at that place failed, whose name the room is for.
-pub fn device_fault(alloc: Global, room: &mut Vec<u8>, bench: &Bench, at: usize) -> Ran
+/// The name of the device at that place, which failed and whose name the room is for.
+pub fn fault_name(
+    alloc: Global,
+    room: &mut Vec<u8>,
+    bench: &Bench,
+    at: usize,
+) -> Result<Text, NoMemory>
+    ensures { NamesFault (vec_capacity room.old) result
+        (slice_get (⟦<Bench as Shown>⟧.all bench.now) at) }
+{
+    if at >= bench.devices.len() {
+        return Err(NoMemory);
+    }
+    let mut name = mem::replace(room, Vec::new(alloc));
+    name.clear();
+    name.extend_from_slice(device_name(&bench.devices[at]))?;
+    Ok(Text { bytes: name })
+}
+
+// What a run came to in which the device at that place failed.
+fn device_fault(alloc: Global, room: &mut Vec<u8>, bench: &Bench, at: usize) -> Ran
     ensures live { result ≢ Ran.WriteFault }
     ensures named { NamesDevice (vec_capacity room.old) result
         (slice_get (⟦<Bench as Shown>⟧.all bench.now) at) }
 {
-    if at >= bench.devices.len() {
-        return Ran::NoMemory;
-    }
-    let mut name = mem::replace(room, Vec::new(alloc));
-    name.clear();
-    match name.extend_from_slice(device_name(&bench.devices[at])) {
-        Ok(()) => Ran::DeviceFault(Text { bytes: name }),
-        Err(_) => Ran::NoMemory,
+    match fault_name(alloc, room, bench, at) {
+        Ok(name) => Ran::DeviceFault(name),
+        Err(NoMemory) => Ran::NoMemory,
     }
 }
 
@@ -223,12 +232,16 @@ fn run_on<K: Sink>(
 {
     let left = bench.left;
     for turn in 0..steps {
-        match make_turn(machine, bench, out) {
-            Turned::On => {}
-            Turned::Over(ending) => return Ran::Ended(ending),
-            Turned::Failed => return device_fault(alloc, room, bench, left.saturating_sub(1)),
-            Turned::WriteFault => return Ran::WriteFault,
-            Turned::NoMemory => return Ran::NoMemory,
+        let outcome = match make_turn(machine, bench, out) {
+            Ok(outcome) => outcome,
+            Err(came) => return came,
+        };
+        match outcome {
+            StepOutcome::On | StepOutcome::Shown => {}
+            StepOutcome::Over(ending) => return Ran::Ended(ending),
+            StepOutcome::Failed => {
+                return device_fault(alloc, room, bench, left.saturating_sub(1));
+            }
         }
     }
     Ran::Budget

@@ -182,7 +182,7 @@ sign_has symbol next is = elim (or_cases (symbol == 43) (symbol == 45) is) [
   | inr e ↦ subst (λ s. has_digit s next ≡ is_string next.stage) (sym (eqb-true symbol 45 e)) refl
 ]
 
-suppressor_has : (symbol : ℕ) (next : Shape) → is_suppressor symbol ≡ true → has_digit symbol next ≡ true
+pub suppressor_has : (symbol : ℕ) (next : Shape) → is_suppressor symbol ≡ true → has_digit symbol next ≡ true
 suppressor_has symbol next is = elim (or_cases (symbol == 90) (symbol == 42) is) [
   | inl e ↦ subst (λ s. has_digit s next ≡ true) (sym (eqb-true symbol 90 e)) refl
   | inr e ↦ subst (λ s. has_digit s next ≡ true) (sym (eqb-true symbol 42 e)) refl

@@ -1,7 +1,7 @@
 -- A number that is cut, and its digits.
-use Rattle.std.proofs.Common.{◌≡◌, ℕ, zero, suc, ◌+◌, ◌-◌, ◌/◌, ◌%◌, ◌^◌, ◌<◌, ◌≤◌, ℤ, pos, negsuc, neg_ℤ, unsigned_abs, List, [], ◌∷◌, ◌++◌, length, take, set, slice_get, Some, None, refl, ap, sym, ◌∙◌, arith}
+use Rattle.std.proofs.Common.{◌≡◌, ℕ, zero, suc, ◌+◌, ◌-◌, ◌/◌, ◌%◌, ◌^◌, ◌<◌, ◌≤◌, ℤ, pos, negsuc, neg_ℤ, unsigned_abs, List, [], ◌∷◌, ◌++◌, length, take, drop, set, replicate, slice_get, Some, None, refl, ap, sym, ◌∙◌, arith}
 use Rattle.std.proofs.Math.Nat.{mod-lt, pow-le-pow_right, one-le-pow}
-use Rattle.std.proofs.lemmas.List.{take_more_set}
+use Rattle.std.proofs.lemmas.List.{drop-drop, drop-replicate, drop-set-lt, take-append-drop, take_more_set}
 use native.Mathlib.Numerals.{unary_clauses}
 use Rattle.cob_num.specs.declared.number.Dec.{Dec}
 use Rattle.cob_num.specs.Storing.{with_sign, whole_units}
@@ -61,6 +61,25 @@ all_taken taken all place rest e full is =
     let none : 20 - place ≡ 0 = omega arith in
     sym (is ∙ ap (λ n. take place taken ++ numerals n rest) none ∙ append_none (take place taken)
     ∙ ap (λ n. take n taken) (e ∙ sym full) ∙ take_all taken)
+
+-- zero has zeros alone
+numerals_zero : (count : ℕ) → numerals count 0 ≡ replicate count 0
+unfolding numerals
+numerals_zero zero = refl
+numerals_zero (suc count) = ap (λ l. 0 ∷ l) (numerals_zero count)
+
+-- where nothing is left the others are zeros
+pub zeros_taken : (taken all : List ℕ) (place rest : ℕ) → rest ≡ 0 → drop place taken ≡ replicate (20 - place) 0 → all ≡ take place taken ++ numerals (20 - place) rest → taken ≡ all
+zeros_taken taken all place rest none zeros is =
+    sym (is ∙ ap (λ n. take place taken ++ numerals (20 - place) n) none
+    ∙ ap (λ l. take place taken ++ l) (numerals_zero (20 - place) ∙ sym zeros)
+    ∙ take-append-drop place taken)
+
+pub zeros_on : (taken : List ℕ) (place digit : ℕ) → drop place taken ≡ replicate (20 - place) 0 → drop (place + 1) (set taken place digit) ≡ replicate (20 - (place + 1)) 0
+zeros_on taken place digit zeros =
+    let less : 20 - place - 1 ≡ 20 - (place + 1) = omega arith in
+    drop-set-lt (place + 1) taken place digit (omega arith) ∙ sym (drop-drop 1 place taken) ∙ ap (λ l. drop 1 l) zeros
+    ∙ drop-replicate 1 (20 - place) 0 ∙ ap (λ n. replicate n 0) less
 
 pub numeral_at : (count right number digit : ℕ) → slice_get (numerals count number) right ≡ Some digit → digit ≡ digit_of right number
 unfolding numerals

@@ -12,6 +12,11 @@ pub mod EditedLemmas
 pub mod CountLemmas
 -- What one symbol more does to the sign, the string and the stage.
 pub mod StepLemmas
+-- What holds up to the last symbol of a mask.
+pub mod ComeLemmas
+-- What one symbol more does to what a light pen knows, and that it shows what a pen shows.
+pub mod LightSteps
+pub mod LightPenLemmas
 -- The laws.
 pub mod SymbolsHaveBytes
 pub mod NumbersAreReadBack
@@ -21,5 +26,7 @@ pub mod MasksAreWrittenOut
 pub mod NegativesAreMarked
 pub mod PrintedMasksAreRead
 pub mod PrintedMasksAreShort
+-- A mask shows the same in capitals.
+pub mod CapitalLemmas
 -- How a mask is held: written out, short and in capitals.
 pub mod HeldMasks

@@ -19,57 +19,8 @@ use Rattle.edit_fields.proofs.MaskLemmas.{Come, ended, comes, come_last, mask_wh
 use Rattle.edit_fields.proofs.FieldLemmas.{cut_short}
 use Rattle.edit_fields.proofs.CountLemmas.{Counts, behind_counts, come_digits, sign_has}
 use Rattle.edit_fields.proofs.NumbersAreReadBack.{above, above_none, next_digit, nothing_above, hidden_is_zero}
-use Rattle.edit_fields.proofs.StepLemmas.{Step, Turn, behind_steps, floats, in_lead, in_tail, is_early, is_start, will}
-
--- ---- up to the last symbol
-
-step_of : (c : ℕ) (shape next : Shape) → behind c shape ≡ Some next → Step c shape.stage shape next
-step_of c shape next e = some_of (λ n. Step c shape.stage shape n) (behind c shape) next e (behind_steps c shape)
-
--- no digit stands behind a tail
-tail_digits : {shape last : Shape} {text : List ℕ} → Come shape text last → is_tail shape.stage ≡ true → digits last ≡ digits shape
-tail_digits ended tail = refl
-tail_digits (comes {shape} {next} {last} {byte} {rest} e come) tail =
-    let on = (step_of (to_ascii_uppercase byte) shape next e).tails tail in
-    tail_digits come on.0 ∙ on.1
-
--- what the string will be, it is
-kept : {shape last : Shape} {text : List ℕ} → Come shape text last → (x : ℕ) → will shape.stage shape.string ≡ Some x → will last.stage last.string ≡ Some x
-kept ended x is = is
-kept (comes {shape} {next} {last} {byte} {rest} e come) x is = kept come x ((step_of (to_ascii_uppercase byte) shape next e).promised x is)
-
--- before the first digit there is none
-abbrev NoneYet : Shape → Type 0
-NoneYet shape = is_early shape.stage ≡ true → digits shape ≡ 0
-
-none_next : (c : ℕ) (shape next : Shape) → behind c shape ≡ Some next → NoneYet shape → NoneYet next
-none_next c shape next e none early =
-    let before = (step_of c shape next e).early early in
-    before.1 ∙ none before.0
-
-none_last : {shape last : Shape} {text : List ℕ} → Come shape text last → NoneYet shape → NoneYet last
-none_last ended none = none
-none_last (comes {shape} {next} {last} {byte} {rest} e come) none = none_last come (none_next (to_ascii_uppercase byte) shape next e none)
-
-string_by : (stage : Stage) (string x : ℕ) → is_early stage ≡ false → will stage string ≡ Some x → string ≡ x
-string_by stages.Start string x late is = absurd cc
-string_by (stages.Lead lead) string x late is = absurd cc
-string_by stages.Body string x late is = absurd cc
-string_by (stages.Led lead) string x late is = absurd cc
-string_by (stages.Once first) string x late is = absurd cc
-string_by stages.InString string x late is = cc
-string_by stages.Nines string x late is = cc
-string_by (stages.Letter letter) string x late is = cc
-string_by stages.Ended string x late is = cc
-
--- a sign that has to come again is the string's
-once_floats : (c : ℕ) (shape last : Shape) (text : List ℕ) → Come shape text last → NoneYet shape → 1 ≤ digits last → shape.stage ≡ stages.Once c → last.string ≡ c
-once_floats c shape last text come none some at =
-    let late : is_early last.stage ≡ false = elim (cases_Bool (is_early last.stage)) [
-      | inl early ↦ absurd (omega (arith, some, none_last come none early))
-      | inr late ↦ late
-    ] in
-    string_by last.stage last.string c late (kept come c (ap (λ s. will s shape.string) at))
+use Rattle.edit_fields.proofs.StepLemmas.{Turn, floats, in_lead, in_tail, is_start}
+use Rattle.edit_fields.proofs.ComeLemmas.{NoneYet, none_next, once_floats, step_of, tail_digits}
 
 -- ---- marks
 

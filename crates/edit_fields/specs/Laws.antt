@@ -8,12 +8,20 @@ use Rattle.edit_fields.specs.declared.shape.Shape.{Shape}
 use Rattle.edit_fields.specs.Symbol.{is_tail_letter, symbol_b, symbol_minus, symbol_r, symbol_v}
 use Rattle.edit_fields.specs.Shape.{behind, empty, is_whole}
 use Rattle.edit_fields.specs.Reading.{left_parenthesis, mask_fault_of, right_parenthesis, written_out}
-use Rattle.edit_fields.specs.Field.{IsMask, cut, moved, shape_of}
+use Rattle.edit_fields.specs.Field.{IsMask, cut, field_of, moved, shape_of}
 use Rattle.edit_fields.specs.Edited.{edited, has_digit, shown_size}
+use Rattle.edit_fields.specs.LightPen.{light_start, light_written}
 
 -- each symbol but V has one byte
 abbrev pub SymbolsHaveBytes : Type 0
 SymbolsHaveBytes = (mask : List ℕ) (value : Dec) → length (edited mask value) ≡ shown_size mask
+
+-- along a mask a pen needs no shape
+abbrev pub LightPensAreEnough : Type 0
+LightPensAreEnough =
+    (mask : List ℕ) (value : Dec) → IsMask mask →
+    light_written (field_of value (shape_of mask)) (light_start (field_of value (shape_of mask)))
+    mask ≡ edited mask value
 
 -- ---- what is in a field is read back
 

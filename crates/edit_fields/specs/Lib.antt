@@ -8,8 +8,9 @@ pub mod Reading
 -- What a number shows through a mask.
 pub mod Field
 pub mod Edited
--- A field with its digits taken apart.
+-- A field with its digits taken apart, and what is enough of a pen along a mask.
 pub mod Figure
+pub mod LightPen
 -- A mask as a program holds it, and its symbols.
 pub mod Symbols
 pub mod Mask

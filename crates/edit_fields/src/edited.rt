@@ -1,17 +1,21 @@
 //! What a number shows through a mask.
 
-ghost use Rattle.std.specs.Prelude.{◌≡◌, ◌≤◌, length};
-ghost use Rattle.edit_fields.specs.Field.{IsMask};
+ghost use Rattle.std.specs.Prelude.{◌≡◌, ◌≢◌, ◌≤◌, false, length, map, true};
+ghost use Rattle.std.specs.Char.{to_ascii_uppercase};
+ghost use Rattle.edit_fields.specs.Symbol.{symbol_v};
 ghost use Rattle.edit_fields.specs.Edited as edits;
-ghost use Rattle.edit_fields.specs.Edited.{edited, shown_size};
+ghost use Rattle.edit_fields.specs.Edited.{shown_size};
+ghost use Rattle.edit_fields.specs.LightPen as pens;
+ghost use Rattle.edit_fields.specs.LightPen.{IsReached, blank_written, light_start, light_written};
 
-use crate::field::{Field, field_of, moved, shape_of};
+use crate::field::Field;
 use crate::figure::Figure;
-use crate::shape::{Shape, Stage};
-use crate::symbol::{is_currency_or_sign, is_sign, is_suppressor};
-use cob_num::Dec;
+use crate::light_pen::{Reached, right_behind};
+use crate::shape::Shape;
+use crate::symbol::{is_currency_or_sign, is_sign, is_tail_letter};
 
-/// What is known of the places to the left of one.
+/// What is known of the places to the left of one. Definitions alone keep the shape: the code finds
+/// its way without it (`light_pen`).
 #[derive(Clone, Copy)]
 pub struct Pen {
     pub shape: Shape,
@@ -21,34 +25,16 @@ pub struct Pen {
     pub shown: bool,
 }
 
-fn is_string(stage: Stage) -> bool
-    ensures { result ≡ edits.is_string stage }
+// C, D, R, and the B behind a D.
+#[inline(always)]
+fn is_letter(last: u8, symbol: u8) -> bool
+    ensures { result ≡ pens.is_letter last symbol }
 {
-    match stage {
-        Stage::InString => true,
-        _ => false,
-    }
-}
-
-fn is_tail(stage: Stage) -> bool
-    ensures { result ≡ edits.is_tail stage }
-{
-    match stage {
-        Stage::Letter(_) => true,
-        Stage::Ended => true,
-        _ => false,
-    }
-}
-
-fn has_digit(symbol: u8, behind: Shape) -> bool
-    ensures { result ≡ edits.has_digit symbol behind }
-{
-    symbol == b'9'
-        || is_suppressor(symbol)
-        || (is_currency_or_sign(symbol) && is_string(behind.stage))
+    is_tail_letter(symbol) || symbol == b'R' || (symbol == b'B' && last == b'D')
 }
 
 // The byte of a sign: - is shown where the number is negative, and + becomes - there.
+#[inline(always)]
 fn sign_byte(minus: bool, sign: u8) -> u8
     ensures { result ≡ edits.sign_byte minus sign }
 {
@@ -61,33 +47,10 @@ fn sign_byte(minus: bool, sign: u8) -> u8
     }
 }
 
-impl Pen {
-    fn at_start() -> Pen
-        ensures { result ≡ edits.at_start }
-    {
-        Pen {
-            shape: Shape::empty(),
-            begun: false,
-            shown: false,
-        }
-    }
-
-    // The pen after one more symbol.
-    fn passed(self, figure: &Figure, symbol: u8) -> Pen
-        ensures { result ≡ edits.passed figure.now symbol self }
-    {
-        let shape = moved(self.shape, symbol);
-        Pen {
-            shape,
-            begun: self.begun || symbol == figure.field().string,
-            shown: self.shown || figure.is_shown(symbol, shape),
-        }
-    }
-}
-
 impl Field {
     // The byte of a field of which nothing is shown: a space, or an asterisk, except for the
     // period.
+    #[inline(always)]
     fn blank_byte(self, symbol: u8) -> u8
         ensures { result ≡ edits.blank_byte self symbol }
     {
@@ -100,6 +63,7 @@ impl Field {
         }
     }
 
+    #[inline(always)]
     fn float_byte(self) -> u8
         ensures { result ≡ edits.float_byte self }
     {
@@ -111,6 +75,7 @@ impl Field {
     }
 
     // The byte in the string, left of the first shown place, which may be the next.
+    #[inline(always)]
     fn hidden_byte(self, next: bool) -> u8
         ensures { result ≡ edits.hidden_byte self next }
     {
@@ -124,6 +89,7 @@ impl Field {
     }
 
     // A letter of CR or DB.
+    #[inline(always)]
     fn letter_byte(self, letter: u8) -> u8
         ensures { result ≡ edits.letter_byte self letter }
     {
@@ -132,31 +98,15 @@ impl Field {
 }
 
 impl Figure {
-    fn digit_at(&self, behind: Shape) -> u8
-        ensures digit { result ≡ edits.digit_at self.now behind }
-        ensures short { result ≤ 9 }
+    // A symbol that is no digit, where it is shown: a sign, a letter of the tail, or an insertion,
+    // of which B is a space.
+    #[inline(always)]
+    fn other_byte(&self, last: u8, symbol: u8) -> u8
+        ensures { result ≡ pens.other_byte self.now last symbol }
     {
-        self.digit(self.field().digits.saturating_sub(behind.digits()))
-    }
-
-    // The first shown place: a digit that isn't zero, a 9, the period, or the place after V.
-    fn is_shown(&self, symbol: u8, behind: Shape) -> bool
-        ensures { result ≡ edits.is_shown self.now symbol behind }
-    {
-        symbol == b'9'
-            || symbol == b'.'
-            || symbol == b'V'
-            || (has_digit(symbol, behind) && self.digit_at(behind) != 0)
-    }
-
-    fn shown_byte(&self, symbol: u8, behind: Shape) -> u8
-        ensures { result ≡ edits.shown_byte self.now symbol behind }
-    {
-        if has_digit(symbol, behind) {
-            b'0' + self.digit_at(behind)
-        } else if is_sign(symbol) {
+        if is_sign(symbol) {
             sign_byte(self.field().minus, symbol)
-        } else if is_tail(behind.stage) {
+        } else if is_letter(last, symbol) {
             self.field().letter_byte(symbol)
         } else if symbol == b'B' {
             b' '
@@ -165,16 +115,39 @@ impl Figure {
         }
     }
 
-    // The byte of a symbol; the next place may be shown.
-    fn byte_of(&self, symbol: u8, pen: Pen, next: bool) -> u8
-        ensures { result ≡ edits.byte_by self.now symbol pen next }
+    // A symbol where it is shown, with so many digits to its right.
+    #[inline(always)]
+    fn shown_byte(&self, counted: bool, right: usize, last: u8, symbol: u8) -> u8
+        ensures { result ≡ pens.shown_by self.now counted right last symbol }
     {
-        if self.field().blank {
-            self.field().blank_byte(symbol)
-        } else if pen.begun && !pen.shown {
-            self.field().hidden_byte(next)
+        if counted {
+            b'0' + self.digit(right)
         } else {
-            self.shown_byte(symbol, pen.shape)
+            self.other_byte(last, symbol)
+        }
+    }
+
+    // A symbol left of the first shown place, where the next place isn't that.
+    #[inline(always)]
+    fn left_byte(&self, begun: bool, last: u8, symbol: u8) -> u8
+        ensures { result ≡ pens.left_byte self.now begun last symbol }
+    {
+        if !begun {
+            self.other_byte(last, symbol)
+        } else {
+            self.field().hidden_byte(false)
+        }
+    }
+
+    // What floats is directly left of the first shown place.
+    #[inline(always)]
+    fn float(&self, begun: bool, place: usize, into: &mut [u8])
+        requires some { begun ≡ true → 1 ≤ place }
+        requires within { place ≤ length into.old }
+        ensures { into.new ≡ pens.floated self.now begun place into.old }
+    {
+        if begun {
+            into[place - 1] = self.field().hidden_byte(true);
         }
     }
 }
@@ -194,40 +167,98 @@ pub fn mask_size(mask: &[u8]) -> usize
     size
 }
 
-/// Writes the bytes that a field shows.
-pub fn write(field: Field, mask: &[u8], into: &mut [u8])
+// Writes the bytes of a field of which nothing is shown.
+fn write_blank(field: Field, mask: &[u8], into: &mut [u8])
     requires { length into.old ≡ shown_size mask.now }
-    ensures { into.new ≡ edits.written field edits.at_start mask.now }
+    ensures { into.new ≡ blank_written field mask.now }
 {
-    let figure = Figure::of(field);
-    // The byte of a symbol waits for the pen after the next one. Before the first there is as good
-    // as a V, which has no byte.
-    let mut symbol = b'V';
-    let mut pen = Pen::at_start();
     let mut at = 0;
     for (place, byte) in mask.iter().enumerate() {
-        let waiting = symbol;
-        let behind = pen;
-        symbol = byte.to_ascii_uppercase();
-        pen = behind.passed(&figure, symbol);
-        if waiting == b'V' {
+        let symbol = byte.to_ascii_uppercase();
+        if symbol == b'V' {
             continue;
         }
-        into[at] = figure.byte_of(waiting, behind, pen.shown);
+        into[at] = field.blank_byte(symbol);
         at += 1;
     }
-    if symbol == b'V' {
-        return;
-    }
-    into[at] = figure.byte_of(symbol, pen, false);
 }
 
-/// The bytes that a value shows through a mask whose counts are written out; `into` has one byte
-/// for each symbol of the mask, except V.
-pub fn edit(mask: &[u8], value: Dec, into: &mut [u8])
-    requires mask { IsMask mask.now }
-    requires size { length into.old ≡ shown_size mask.now }
-    ensures { into.new ≡ edited mask.now value }
+// Writes the bytes to the left of the first shown place, of which each symbol has one.
+fn write_hidden(figure: &Figure, mask: &[u8], into: &mut [u8]) -> Reached
+    requires visible { figure.now.blank ≡ false }
+    requires string { figure.now.string ≢ symbol_v }
+    requires capitals { map to_ascii_uppercase mask.now ≡ mask.now }
+    requires room { length into.old ≡ shown_size mask.now }
+    ensures { IsReached figure.now mask.now into.new result }
 {
-    write(field_of(value, shape_of(mask)), mask, into);
+    let mut last = 0;
+    let mut right = usize::from(figure.field().digits);
+    let mut begun = false;
+    for (place, byte) in mask.iter().enumerate() {
+        let symbol = *byte;
+        let counted = figure.is_counted(symbol, begun);
+        let behind = right_behind(counted, right);
+        if figure.is_seen(symbol, counted, behind) {
+            figure.float(begun, place, into);
+            return Reached {
+                place,
+                last,
+                right,
+                begun,
+            };
+        }
+        right = behind;
+        begun = figure.begins(begun, symbol);
+        into[place] = figure.left_byte(begun, last, symbol);
+        last = symbol;
+    }
+    Reached {
+        place: mask.len(),
+        last,
+        right,
+        begun,
+    }
+}
+
+// Writes the bytes from the first shown place on.
+fn write_shown(figure: &Figure, mask: &[u8], reached: Reached, into: &mut [u8])
+    requires visible { figure.now.blank ≡ false }
+    requires capitals { map to_ascii_uppercase mask.now ≡ mask.now }
+    requires reached { IsReached figure.now mask.now into.old reached }
+    ensures { into.new ≡ light_written figure.now (light_start figure.now) mask.now }
+{
+    let mut last = reached.last;
+    let mut right = reached.right;
+    let mut begun = reached.begun;
+    let mut at = reached.place;
+    for place in reached.place..mask.len() {
+        let before = last;
+        let symbol = mask[place];
+        let counted = figure.is_counted(symbol, begun);
+        right = right_behind(counted, right);
+        begun = figure.begins(begun, symbol);
+        last = symbol;
+        if symbol == b'V' {
+            continue;
+        }
+        into[at] = figure.shown_byte(counted, right, before, symbol);
+        at += 1;
+    }
+}
+
+/// Writes the bytes that a field shows through symbols in capitals.
+pub fn write(field: Field, mask: &[u8], into: &mut [u8])
+    requires string { field.string ≢ symbol_v }
+    requires capitals { map to_ascii_uppercase mask.now ≡ mask.now }
+    requires room { length into.old ≡ shown_size mask.now }
+    ensures { into.new ≡ light_written field (light_start field) mask.now }
+{
+    let blank = field.blank;
+    if blank {
+        write_blank(field, mask, into);
+        return;
+    }
+    let figure = Figure::of(field);
+    let reached = write_hidden(&figure, mask, into);
+    write_shown(&figure, mask, reached, into);
 }

@@ -29,18 +29,23 @@ impl Model for Figure {
 }
 
 // The digits of a number, from the right.
+#[inline(always)]
 fn numerals_of(number: u64) -> [u8; 20]
     ensures { result ≡ fields.numerals 20 number }
 {
     let mut numerals = [0; 20];
     let mut rest = number;
     for place in 0..20 {
+        if rest == 0 {
+            return numerals;
+        }
         numerals[place] = (rest % 10) as u8;
         rest /= 10;
     }
     numerals
 }
 
+#[inline(always)]
 fn numeral_at(numerals: &[u8], right: usize) -> Option<u8>
     ensures { result ≡ slice_get numerals.now right }
 {
@@ -49,6 +54,7 @@ fn numeral_at(numerals: &[u8], right: usize) -> Option<u8>
 
 impl Figure {
     /// The figure of a field.
+    #[inline(always)]
     pub fn of(field: Field) -> Figure
         ensures { result ≡ field }
     {
@@ -59,6 +65,7 @@ impl Figure {
     }
 
     /// The field itself.
+    #[inline(always)]
     pub fn field(&self) -> Field
         ensures { result ≡ self.now }
     {
@@ -66,11 +73,12 @@ impl Figure {
     }
 
     /// The digit that has so many digits to the right of it.
-    pub fn digit(&self, right: u16) -> u8
+    #[inline(always)]
+    pub fn digit(&self, right: usize) -> u8
         ensures digit { result ≡ fields.digit_of right self.now.number }
         ensures short { result ≤ 9 }
     {
-        match numeral_at(&self.numerals, right as usize) {
+        match numeral_at(&self.numerals, right) {
             Some(numeral) => numeral,
             None => 0,
         }

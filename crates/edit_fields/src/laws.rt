@@ -1,10 +1,15 @@
 //! What holds of all masks and numbers. These functions do nothing; their contracts are laws.
 
-ghost use Rattle.edit_fields.specs.Laws.{BeginningsGoOn, MasksAreWrittenOut, NegativesAreMarked, NumbersAreReadBack, OnlyNegativesAreMarked, PrintedMasksAreRead, PrintedMasksAreShort, SymbolsHaveBytes};
+ghost use Rattle.edit_fields.specs.Laws.{BeginningsGoOn, LightPensAreEnough, MasksAreWrittenOut, NegativesAreMarked, NumbersAreReadBack, OnlyNegativesAreMarked, PrintedMasksAreRead, PrintedMasksAreShort, SymbolsHaveBytes};
 
 /// A number fills its field: each symbol but V has one byte.
 pub fn symbols_have_bytes()
     ensures { SymbolsHaveBytes }
+{}
+
+/// What the code writes with a pen that knows no shape are the bytes of the definitions.
+pub fn light_pens_are_enough()
+    ensures { LightPensAreEnough }
 {}
 
 /// The digits of a field, read back, are the number that was put there.

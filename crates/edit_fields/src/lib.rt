@@ -18,6 +18,7 @@ mod fault;
 mod field;
 mod figure;
 pub mod laws;
+mod light_pen;
 mod mask;
 mod reading;
 mod shape;
@@ -28,11 +29,12 @@ ghost use Rattle.std.specs.Prelude.{◌≡◌, ◌<◌, ◌^◌, length};
 ghost use Rattle.edit_fields.specs.Reading as readings;
 ghost use Rattle.edit_fields.specs.Reading.{mask_fault_of};
 
-pub use edited::{Pen, edit, mask_size};
+pub use edited::{Pen, mask_size};
 pub use extent::Extent;
 pub use fault::MaskFault;
 pub use field::{Digits, Field, mask_digits};
-pub use mask::Mask;
+pub use light_pen::Reached;
+pub use mask::{Mask, edit};
 pub use reading::{Reading, SymbolPlace, is_written_out};
 pub use shape::{Shape, Stage};
 

@@ -3,7 +3,7 @@
 ghost use Rattle.std.specs.Prelude.{◌≡◌, ◌≤◌, ◌<◌, ◌^◌, length};
 ghost use Rattle.edit_fields.specs.Mask.{IsHeldMask, held};
 ghost use Rattle.edit_fields.specs.Field as fields;
-ghost use Rattle.edit_fields.specs.Field.{IsNumber};
+ghost use Rattle.edit_fields.specs.Field.{IsMask, IsNumber};
 ghost use Rattle.edit_fields.specs.Edited.{edited, shown_size};
 
 use crate::fault::MaskFault;
@@ -104,6 +104,17 @@ impl Mask {
     {
         edited::write(field_of(value, self.shape), self.as_slice(), into)
     }
+}
+
+/// The bytes that a value shows through a mask whose counts are written out; `into` has one byte
+/// for each symbol of the mask, except V.
+pub fn edit(mask: &[u8], value: Dec, into: &mut [u8])
+    requires mask { IsMask mask.now }
+    requires size { length into.old ≡ shown_size mask.now }
+    ensures { into.new ≡ edited mask.now value }
+{
+    let held = Mask::of(written_out(mask));
+    held.edit(value, into);
 }
 
 impl fmt::Debug for Mask {

@@ -4,6 +4,7 @@ ghost use Rattle.std.specs.Prelude.{◌≡◌};
 ghost use Rattle.edit_fields.specs.Symbol as symbols;
 
 /// Whether it is `+` or `-`.
+#[inline(always)]
 pub fn is_sign(symbol: u8) -> bool
     ensures { result ≡ symbols.is_sign symbol }
 {
@@ -11,6 +12,7 @@ pub fn is_sign(symbol: u8) -> bool
 }
 
 /// Whether it is a sign or `$`, which floats where it comes twice.
+#[inline(always)]
 pub fn is_currency_or_sign(symbol: u8) -> bool
     ensures { result ≡ symbols.is_currency_or_sign symbol }
 {
@@ -39,6 +41,7 @@ pub fn is_point(symbol: u8) -> bool
 }
 
 /// Whether CR or DB begins with it.
+#[inline(always)]
 pub fn is_tail_letter(symbol: u8) -> bool
     ensures { result ≡ symbols.is_tail_letter symbol }
 {

@@ -1,7 +1,5 @@
 //! A device that has every file and keeps nothing.
 
-ghost use Rattle.std.specs.Prelude.{◌≡◌};
-
 use crate::device::{Device, Got, Opened, Put};
 use cob_base::Text;
 use cob_tree::How;

@@ -10,7 +10,7 @@ fn number(value: i64, scale: u8) -> Dec
 {
     Dec {
         value: i128::from(value),
-        scale,
+        scale: scale as u64,
     }
 }
 

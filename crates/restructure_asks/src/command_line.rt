@@ -1,12 +1,12 @@
 //! The command line: what the program answers itself.
 
-ghost use Rattle.std.specs.Prelude.{◌≡◌, map, string_bytes, true, false, None, is_some, IfOk, OnErr};
+ghost use Rattle.std.specs.Prelude.{◌≡◌, map, string_bytes, true, false, None, is_some, IfOk, IfSome, OnErr};
 ghost use Rattle.cob_base.specs.Source.{source_call};
 ghost use Rattle.cob_base.specs.Sink.{sink_call};
 ghost use Rattle.restructure_core.specs.run.Bench.{bench_call};
 ghost use Rattle.restructure_asks.specs.Ask.{ask_of};
 ghost use Rattle.restructure_asks.specs.Tool.{Ends, EndsCompared, EndsWithFiles, IsEitherTold};
-ghost use Rattle.restructure_asks.specs.Program.{is_page, is_page_word, ShowsPage};
+ghost use Rattle.restructure_asks.specs.Program.{asked_page, is_page, is_page_word, page_for, ShowsPage};
 
 use crate::refusal::Refusal;
 use crate::status::Status;
@@ -17,7 +17,8 @@ use file_model::Bench;
 use file_model::operations::Shown;
 use std::alloc::Global;
 
-const HELP: &str = "\
+/// The page that `--help` shows.
+pub const HELP: &str = "\
 usage: restructure_tool restructure [--report] < SOURCE > RESULT
        restructure_tool check < SOURCE > REPORT
        restructure_tool run --steps N < SOURCE > DISPLAYED
@@ -43,7 +44,8 @@ Example: restructure_tool restructure < OLD.cob > NEW.cob
 The manual is docs/USING.md.
 ";
 
-const VERSION: &str = "Tumgaiba 0.1.0 (restructure_tool)
+/// The page that `--version` shows.
+pub const VERSION: &str = "Tumgaiba 0.1.0 (restructure_tool)
 proved with rattle-kit-13f logic dac8208d650f15bf
 ";
 
@@ -59,7 +61,8 @@ pub fn program<S: Source, K: Sink, N: Sink>(
     second: &mut Bench,
 ) -> Status
     ensures page { IfOk words (λ words. is_page (map string_bytes words.items) ≡ true →
-        ShowsPage (source_call S.left S.faults source.old source.new)
+        ShowsPage (asked_page (map string_bytes words.items))
+        (source_call S.left S.faults source.old source.new)
         (sink_call K.held K.faults out.old out.new)
         (sink_call N.held N.faults notes.old notes.new) result) }
     ensures ask { IfOk words (λ words. is_page (map string_bytes words.items) ≡ false →
@@ -107,7 +110,8 @@ fn serve<S: Source, K: Sink, N: Sink>(
     second: &mut Bench,
 ) -> Status
     ensures page { is_page (map string_bytes words.now) ≡ true →
-        ShowsPage (source_call S.left S.faults source.old source.new)
+        ShowsPage (asked_page (map string_bytes words.now))
+        (source_call S.left S.faults source.old source.new)
         (sink_call K.held K.faults out.old out.new)
         (sink_call N.held N.faults notes.old notes.new) result }
     ensures ask { is_page (map string_bytes words.now) ≡ false →
@@ -140,7 +144,8 @@ fn serve<S: Source, K: Sink, N: Sink>(
 
 // The page that the words ask the program itself for.
 fn page_of(words: &[String]) -> Option<&'static str>
-    ensures { is_some result ≡ is_page (map string_bytes words.now) }
+    ensures some { is_some result ≡ is_page (map string_bytes words.now) }
+    ensures page { IfSome result (λ page. page.now ≡ asked_page (map string_bytes words.now)) }
 {
     match words {
         [word] => page_of_word(word.as_str()),
@@ -150,7 +155,8 @@ fn page_of(words: &[String]) -> Option<&'static str>
 
 // The page of one word.
 fn page_of_word(word: &str) -> Option<&'static str>
-    ensures { is_some result ≡ is_page_word word.now }
+    ensures some { is_some result ≡ is_page_word word.now }
+    ensures page { IfSome result (λ page. page.now ≡ page_for word.now) }
 {
     if word == "--help" {
         return Some(HELP);

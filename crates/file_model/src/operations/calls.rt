@@ -1,6 +1,6 @@
 //! Calls of a device on the bench.
 
-ghost use Rattle.std.specs.Prelude.{◌≡◌, ◌≢◌, ◌<◌, length, map};
+ghost use Rattle.std.specs.Prelude.{◌≡◌, ◌≢◌, ◌<◌, length};
 ghost use Rattle.file_model.specs.Told.{Changes, Counts, GivesAtMost, Opens, Reads};
 ghost use Rattle.file_model.specs.Told.{appended, open_fails, put_fails, read_fails, replaced, shut};
 ghost use Rattle.file_model.specs.operations.Calls.{Called};

@@ -1,6 +1,6 @@
 //! CLOSE, and the end of a run.
 
-ghost use Rattle.std.specs.Prelude.{ℕ, suc, List, ◌≡◌, ◌≢◌, ◌<◌, ◌^◌, Some, length, map, slice_get, slice_set, take, Ok, Err};
+ghost use Rattle.std.specs.Prelude.{ℕ, suc, List, ◌≡◌, ◌≢◌, ◌<◌, ◌^◌, Some, length, slice_get, slice_set, Ok, Err};
 ghost use Rattle.file_model.specs.Status.{closed_row};
 ghost use Rattle.file_model.specs.Attempts.{Address, closed_at};
 ghost use Rattle.file_model.specs.World.{World};

@@ -1,6 +1,6 @@
 //! The device of a file.
 
-ghost use Rattle.std.specs.Prelude.{◌≡◌, ◌<◌, IfSome, MatchOption, map, slice_get, take};
+ghost use Rattle.std.specs.Prelude.{◌≡◌, ◌<◌, IfSome, MatchOption, slice_get};
 ghost use Rattle.std.specs.Str.{bytes_eq};
 ghost use Rattle.file_model.specs.operations.Seen.{IsFirstAt, Nowhere};
 

@@ -1,6 +1,6 @@
 //! OPEN.
 
-ghost use Rattle.std.specs.Prelude.{◌≡◌, ◌<◌, ◌^◌, Some, length, map, slice_get, slice_set, take, Ok};
+ghost use Rattle.std.specs.Prelude.{◌≡◌, ◌<◌, ◌^◌, Some, length, slice_get, slice_set, Ok};
 ghost use Rattle.file_model.specs.Attempts.{Address, opened_at};
 ghost use Rattle.file_model.specs.Status.{opened_row};
 ghost use Rattle.file_model.specs.World.{World};

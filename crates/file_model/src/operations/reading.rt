@@ -1,6 +1,6 @@
 //! READ.
 
-ghost use Rattle.std.specs.Prelude.{◌≡◌, ◌==◌, if◌then◌else◌, true, false, ◌≤◌, ◌<◌, ◌^◌, IfSome, Some, length, map, slice_get, slice_set, take, Ok};
+ghost use Rattle.std.specs.Prelude.{◌≡◌, ◌==◌, if◌then◌else◌, true, false, ◌≤◌, ◌<◌, ◌^◌, IfSome, Some, length, slice_get, slice_set, take, Ok};
 ghost use Rattle.file_model.specs.Attempts.{Address, padded_to, read_at};
 ghost use Rattle.file_model.specs.Status.{read_row};
 ghost use Rattle.file_model.specs.World.{World};

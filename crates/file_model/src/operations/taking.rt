@@ -1,6 +1,6 @@
 //! A device that failed.
 
-ghost use Rattle.std.specs.Prelude.{◌≡◌, ◌≤◌, ◌<◌, ◌^◌, IfSome, if◌then◌else◌, length, map, slice_get, slice_set, vec_len, Err};
+ghost use Rattle.std.specs.Prelude.{◌≡◌, ◌≤◌, ◌<◌, ◌^◌, IfSome, if◌then◌else◌, length, slice_get, slice_set, vec_len, Err};
 ghost use Rattle.std.specs.Str.{bytes_eq};
 ghost use Rattle.file_model.specs.Attempts.{address_of};
 ghost use Rattle.file_model.specs.Status.{closed_row};

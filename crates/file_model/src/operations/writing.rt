@@ -1,6 +1,6 @@
 //! WRITE and REWRITE.
 
-ghost use Rattle.std.specs.Prelude.{◌≡◌, ◌<◌, ◌^◌, Some, length, map, slice_get, take};
+ghost use Rattle.std.specs.Prelude.{◌≡◌, ◌<◌, ◌^◌, Some, length, slice_get};
 ghost use Rattle.file_model.specs.Attempts.{Address, rewritten_at, written_at};
 ghost use Rattle.file_model.specs.World.{World};
 ghost use Rattle.file_model.specs.operations.Calls.{Comes, Leaves, Notes, addresses_of};
