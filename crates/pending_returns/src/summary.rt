@@ -1,6 +1,6 @@
 //! The summary of a program.
 
-ghost use Rattle.std.specs.Prelude.{◌≡◌, ◌<◌, ◌≤◌, Some, length, slice_get, IfOk, MatchResult};
+ghost use Rattle.std.specs.Prelude.{◌≡◌, ◌<◌, ◌≤◌, ◌^◌, Some, length, slice_get, IfOk, MatchResult};
 ghost use Rattle.cob_base.specs.Limit.{max_ranges};
 ghost use Rattle.control_flow_theory.specs.language.Control.{control_of};
 ghost use Rattle.program_points.specs.paths.Flow.{main_range};
@@ -28,6 +28,7 @@ pub fn summary_of(alloc: Global, table: &Table) -> Result<Summary, NoMemory>
     requires tidy { IsTidy table.now }
     requires main { slice_get table.now.ranges 0 ≡ Some main_range }
     requires rising { RangesRise table.now.ranges }
+    requires few { length table.now.ranges < 2 ^ 32 }
     ensures summary { IfOk result (λ summary. SummarisesTable table.now summary) }
     ensures few { IfOk result (λ summary. length summary.ranges ≤ length table.now.ranges) }
 {

@@ -1,6 +1,6 @@
 //! Which ranges return.
 
-ghost use Rattle.std.specs.Prelude.{◌≡◌, ◌<◌, ◌≤◌, ◌↔◌, true, false, length, IfOk, IsTrue};
+ghost use Rattle.std.specs.Prelude.{◌≡◌, ◌<◌, ◌≤◌, ◌^◌, ◌↔◌, true, false, length, IfOk, IsTrue};
 ghost use Rattle.program_points.specs.point_table.Table.{IsTidy, IsClosed, ReturnsHere};
 ghost use Rattle.pending_returns.specs.levels.Reach.{HasEnd, AllPlaces, IsMarked, SaysSoundly, StaysSound, trues};
 
@@ -82,7 +82,8 @@ pub fn recheck_all(
 /// Which ranges return. First a worklist finds them; then rounds over all ranges make sure that
 /// there are no others.
 pub fn returning_ranges(alloc: Global, table: &Table) -> Result<Vec<bool>, NoMemory>
-    requires { IsTidy table.now }
+    requires tidy { IsTidy table.now }
+    requires few { length table.now.ranges < 2 ^ 32 }
     ensures size { IfOk result (λ returns. length returns.items ≡ length table.now.ranges) }
     ensures sound { IfOk result (λ returns. SaysSoundly table.now returns.items) }
     ensures closed { IfOk result (λ returns. IsClosed table.now returns.items) }

@@ -1,6 +1,6 @@
 //! Which ranges return, found with a worklist.
 
-ghost use Rattle.std.specs.Prelude.{◌≡◌, length};
+ghost use Rattle.std.specs.Prelude.{◌≡◌, ◌<◌, ◌^◌, length};
 ghost use Rattle.program_points.specs.point_table.Table.{IsTidy};
 ghost use Rattle.pending_returns.specs.levels.Reach.{IsMarked, StaysSound};
 
@@ -18,10 +18,12 @@ pub struct Waiter {
     pub next: Option<u32>,
 }
 
-/// The ranges to check, and the ranges that wait: for each range its first waiter.
+/// The ranges to check, whether each range is still to be checked, and the ranges that wait: for
+/// each range its first waiter.
 #[derive(Debug, Drop)]
 pub struct Worklist {
     pub queue: Vec<u32>,
+    pub queued: Vec<bool>,
     pub firsts: Vec<Option<u32>>,
     pub waits: Vec<Waiter>,
 }
@@ -35,16 +37,18 @@ impl Worklist {
         }
         Ok(Worklist {
             queue,
+            queued: vec![in alloc; true; count as usize]?,
             firsts: vec![in alloc; None; count as usize]?,
             waits: Vec::new(alloc),
         })
     }
 
-    /// Has a range checked again once `called` is found to return.
+    /// Has a range checked again once `called` is found to return, as long as 32 bits number those
+    /// that wait: the rounds find what the worklist misses.
     pub fn wait(&mut self, range: u32, called: u32) -> Result<(), NoMemory> {
         let number = match u32::try_from(self.waits.len()) {
             Ok(number) => number,
-            Err(_) => return Err(NoMemory),
+            Err(_) => return Ok(()),
         };
         match self.firsts.get_mut(called as usize) {
             Some(first) => {
@@ -54,6 +58,30 @@ impl Worklist {
                 Ok(())
             }
             None => Ok(()),
+        }
+    }
+
+    /// Puts a range on the list, unless it is still to be checked: else a range that waits for
+    /// several in a row would be on it twice as often after each of them.
+    pub fn put(&mut self, range: u32) -> Result<(), NoMemory> {
+        match self.queued.get_mut(range as usize) {
+            Some(queued) => {
+                if *queued {
+                    return Ok(());
+                }
+                *queued = true;
+                self.queue.push(range)?;
+                Ok(())
+            }
+            None => Ok(()),
+        }
+    }
+
+    /// Notes that a range on the list is checked now.
+    pub fn begin(&mut self, range: u32) {
+        match self.queued.get_mut(range as usize) {
+            Some(queued) => *queued = false,
+            None => {}
         }
     }
 
@@ -71,7 +99,7 @@ impl Worklist {
             match self.waits.get(number as usize) {
                 Some(wait) => {
                     let Waiter { range, next: later } = *wait;
-                    self.queue.push(range)?;
+                    self.put(range)?;
                     next = later;
                 }
                 None => return Ok(()),
@@ -143,21 +171,19 @@ pub fn run_worklist(
     requires places { length reach.old.marks.items ≡ length table.now.places }
     requires tidy { IsTidy table.now }
     requires size { length returns.old.items ≡ length table.now.ranges }
+    requires few { length table.now.ranges < 2 ^ 32 }
     ensures size { length returns.new.items ≡ length table.now.ranges }
     ensures sound { StaysSound table.now returns.old.items returns.new.items }
     ensures marked { IsMarked reach.new.places.items reach.new.marks.items }
     ensures places { length reach.new.marks.items ≡ length table.now.places }
 {
-    let count = match u32::try_from(table.ranges.len()) {
-        Ok(count) => count,
-        Err(_) => return Err(NoMemory),
-    };
-    let mut work = Worklist::new(alloc, count)?;
+    let mut work = Worklist::new(alloc, table.ranges.len() as u32)?;
     for at in 0..usize::MAX {
         if at >= work.queue.len() {
             return Ok(());
         }
         let number = work.queue[at];
+        work.begin(number);
         update_range(reach, table, returns, &mut work, number)?;
     }
     Ok(())
