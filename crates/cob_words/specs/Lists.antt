@@ -1,5 +1,5 @@
 -- The words that a program can't take for its own names.
-use Rattle.std.specs.Prelude.{ℕ, ◌==◌, Bool, List, [], ◌∷◌, length, filter, codes}
+use Rattle.std.specs.Prelude.{ℕ, ◌+◌, ◌*◌, ◌%◌, ◌==◌, Bool, List, [], ◌∷◌, length, filter, codes}
 use Rattle.std.specs.List.{list_any}
 use Rattle.std.specs.Str.{bytes_eq}
 
@@ -55,6 +55,11 @@ left_out_words =
 abbrev pub is_listed : List (List ℕ) → List ℕ → Bool
 is_listed words word = list_any (bytes_eq word) words
 
--- the words of this many bytes
-abbrev pub of_length : ℕ → List (List ℕ) → List (List ℕ)
-of_length n words = filter (λ w. length w == n) words
+-- the row of a list in which a word is looked for, by its first byte and its length
+abbrev pub row_of : List ℕ → ℕ
+row_of [] = 0
+row_of (b ∷ bytes) = (b * 11 + length (b ∷ bytes) % 64) % 64
+
+-- the words of this row
+abbrev pub of_row : ℕ → List (List ℕ) → List (List ℕ)
+of_row n words = filter (λ w. row_of w == n) words

@@ -1,8 +1,7 @@
 -- The tokens of a text, a token at a time.
-use Rattle.std.proofs.Common.{ℕ, ◌≡◌, ◌≢◌, ◌<◌, ◌≤◌, ◌+◌, ◌-◌, zero, suc, true, false, List, [], ◌∷◌, ◌++◌, take, drop, set, length, get_or, ap, sym, ◌∙◌, arith, refl, append_assoc, add-one, drop-cons, drop-drop}
-use Rattle.std.proofs.lemmas.List.{map-append, take_more, take_more_set}
+use Rattle.std.proofs.Common.{ℕ, ◌≡◌, ◌≢◌, ◌<◌, ◌≤◌, ◌+◌, ◌-◌, zero, suc, true, false, List, [], ◌∷◌, ◌++◌, take, drop, length, get_or, ap, sym, ◌∙◌, arith, refl, append_assoc, add-one, drop-cons, drop-drop}
 use Rattle.cob_base.specs.Answers.{Answers}
-use Rattle.ref_format.specs.Placed.{bytes_of}
+use Rattle.ref_format.specs.Placed.{bytes_of, lines_of}
 use Rattle.cobol_lex.specs.Byte.{is_separator}
 use Rattle.cobol_lex.specs.Awaits.{awaits_behind}
 use Rattle.cobol_lex.specs.Lexeme.{next_lexeme}
@@ -66,6 +65,26 @@ byte_behind (suc at) n (p ∷ text) =
     let same : suc (at + n) ≡ suc at + n = omega arith in
     byte_behind at n text ∙ ap (λ k. get_or (bytes_of (p ∷ text)) k 0) same
 
+drop_lines : (n : ℕ) (text : List Placed) → drop n (lines_of text) ≡ lines_of (drop n text)
+drop_lines zero text = refl
+drop_lines (suc n) [] = refl
+drop_lines (suc n) (p ∷ text) = drop_lines n text
+
+pub length_lines : (text : List Placed) → length (lines_of text) ≡ length text
+length_lines [] = refl
+length_lines (p ∷ text) = ap suc (length_lines text)
+
+-- the line of the next byte
+line_at : (at : ℕ) (text : List Placed) (lines : List ℕ) (d : Placed) → at < length text → lines ≡ lines_of (drop at text) →
+    get_or lines 0 0 ≡ (get_or text at d).line
+line_at at text lines d within is = ap (λ l. get_or l 0 0) is ∙ ap (λ t. get_or (lines_of t) 0 0) (drop-cons text at d within)
+
+-- the lines that are left behind so many bytes more
+pub lines_passed : (at end n : ℕ) (text : List Placed) (lines lines' : List ℕ) → at + n ≡ end → lines ≡ lines_of (drop at text) → lines' ≡ drop n lines →
+    lines' ≡ lines_of (drop end text)
+lines_passed at end n text lines lines' reached is passed =
+    passed ∙ ap (drop n) is ∙ drop_lines n (drop at text) ∙ ap lines_of (drop-drop n at text) ∙ ap (λ k. lines_of (drop k text)) reached
+
 pub length_bytes : (text : List Placed) → length (bytes_of text) ≡ length text
 length_bytes [] = refl
 length_bytes (p ∷ text) = ap suc (length_bytes text)
@@ -74,14 +93,6 @@ get_or-default : (text : List Placed) (at : ℕ) (d d' : Placed) → at < length
 get_or-default [] at d d' within = absurd (omega arith)
 get_or-default (p ∷ text) zero d d' within = refl
 get_or-default (p ∷ text) (suc at) d d' within = get_or-default text at d d' (omega arith)
-
--- one more byte of the text, put into its place
-pub byte_put : (to : List ℕ) (text : List Placed) (at : ℕ) (d : Placed) → length to ≡ length text → at < length text → take at to ≡ bytes_of (take at text) →
-    take (at + 1) (set to at (get_or text at d).byte) ≡ bytes_of (take (at + 1) text)
-byte_put to text at d room within done =
-    take_more_set to at (get_or text at d).byte (omega (arith, room))
-    ∙ ap (λ bytes. bytes ++ (get_or text at d).byte ∷ []) done
-    ∙ sym (ap bytes_of (take_more text at d within) ∙ map-append (λ p. p.byte) (take at text) (get_or text at d ∷ []))
 
 pub over_separator : (awaits : Awaits) (before at : ℕ) (text : List Placed) (p : Placed) → at < length text → get_or text at p ≡ p → is_separator p.byte ≡ true →
     tokens_from 0 awaits before (drop at text) ≡ tokens_from 0 awaits p.byte (drop (at + 1) text)
@@ -137,18 +148,24 @@ take_rest n bytes = grind (arith, common_steps)
 pub bytes_left : (n : ℕ) (bytes : List ℕ) (text : List Placed) → bytes ≡ bytes_of text → take (length bytes - n) (drop n bytes) ≡ bytes_of (drop n text)
 bytes_left n bytes text placed = take_rest n bytes ∙ ap (drop n) placed ∙ drop_bytes n text
 
+-- the byte at a place
+here : (at : ℕ) (text : List Placed) (bytes : List ℕ) (d : Placed) → bytes ≡ bytes_of text → at < length text → get_or bytes at 0 ≡ (get_or text at d).byte
+here at text bytes d placed within = ap (λ b. get_or b at 0) placed ∙ byte_at at text d within
+
 -- a loop goes on behind separators
 pub on_separators : (awaits : Awaits) (before before' at end : ℕ) (text : List Placed) (d : Placed) (bytes : List ℕ) (front : List Token) (whole : Result (List Token) LexError) →
     bytes ≡ bytes_of text →
     tokens_behind front (tokens_from 0 awaits before (drop at text)) ≡ whole →
-    at < length text →
-    is_separator (get_or text at d).byte ≡ true →
+    at < length bytes →
+    is_separator (get_or bytes at 0) ≡ true →
     at < end → end ≤ length bytes →
     ((k : ℕ) → at < k → k < end → is_separator (get_or bytes k 0) ≡ true) →
     before' ≡ get_or bytes (end - 1) 0 →
     tokens_behind front (tokens_from 0 awaits before' (drop end text)) ≡ whole
-on_separators awaits before before' at end text d bytes front whole placed so_far within separates further most each last =
+on_separators awaits before before' at end text d bytes front whole placed so_far inside is_one further most each last =
     let p = get_or text at d in
+    let within : at < length text = omega (arith, inside, ap length placed, length_bytes text) in
+    let separates : is_separator p.byte ≡ true = ap is_separator (sym (here at text bytes d placed within)) ∙ is_one in
     let rest = drop (suc at) text in
     let n : ℕ = end - suc at in
     let begun : drop at text ≡ p ∷ rest = drop-cons text at d within in
@@ -171,37 +188,49 @@ on_separators awaits before before' at end text d bytes front whole placed so_fa
     sym (ap (tokens_behind front) skipped) ∙ so_far
 
 -- the same behind a token
-pub on_token : (awaits awaits' : Awaits) (before before' at : ℕ) (text : List Placed) (d : Placed) (bytes left : List ℕ) (front front' : List Token) (lexeme : Lexeme) (whole : Result (List Token) LexError) →
+pub on_token : (awaits awaits' : Awaits) (before before' at line : ℕ) (text : List Placed) (d : Placed) (bytes lines left : List ℕ) (front front' : List Token) (lexeme : Lexeme) (whole : Result (List Token) LexError) →
     bytes ≡ bytes_of text →
+    lines ≡ lines_of (drop at text) →
+    line ≡ get_or lines 0 0 →
     left ≡ bytes_of (drop at text) →
     tokens_behind front (tokens_from 0 awaits before (drop at text)) ≡ whole →
-    at < length text →
-    is_separator (get_or text at d).byte ≡ false →
-    next_lexeme awaits before (get_or text at d).line left ≡ Ok lexeme →
+    at < length bytes →
+    is_separator (get_or bytes at 0) ≡ false →
+    next_lexeme awaits before line left ≡ Ok lexeme →
     (0 < lexeme.length) × (lexeme.length ≤ length left) →
     awaits' ≡ awaits_behind awaits lexeme.kind →
     before' ≡ get_or bytes (at + lexeme.length - 1) 0 →
-    front' ≡ front ++ record { kind = lexeme.kind; line = (get_or text at d).line } ∷ [] →
+    front' ≡ front ++ record { kind = lexeme.kind; line = line } ∷ [] →
     tokens_behind front' (tokens_from 0 awaits' before' (drop (at + lexeme.length) text)) ≡ whole
-on_token awaits awaits' before before' at text d bytes left front front' lexeme whole placed same so_far within other next takes awaited last added =
+on_token awaits awaits' before before' at line text d bytes lines left front front' lexeme whole placed on_lines first same so_far inside other next takes awaited last added =
     let p = get_or text at d in
+    let within : at < length text = omega (arith, inside, ap length placed, length_bytes text) in
+    let line_is : line ≡ p.line = first ∙ line_at at text lines d within on_lines in
+    let not_one : is_separator p.byte ≡ false = ap is_separator (sym (here at text bytes d placed within)) ∙ other in
     let most : lexeme.length ≤ length (drop at text) = omega (arith, takes.1, ap length same, length_bytes (drop at text)) in
-    let next_is : next_lexeme awaits before p.line (bytes_of (drop at text)) ≡ Ok lexeme = ap (next_lexeme awaits before p.line) (sym same) ∙ next in
-    let step = over_token awaits before at text p front lexeme within (get_or-default text at p d within) other next_is takes.0 most in
+    let next_is : next_lexeme awaits before p.line (bytes_of (drop at text)) ≡ Ok lexeme = (λ k. next_lexeme awaits before (sym line_is k) (sym same k)) ∙ next in
+    let step = over_token awaits before at text p front lexeme within (get_or-default text at p d within) not_one next_is takes.0 most in
     let last_is : before' ≡ get_or (bytes_of text) (at + lexeme.length - 1) 0 = last ∙ ap (λ b. get_or b (at + lexeme.length - 1) 0) placed in
-    rw (awaited, last_is, added) (sym step ∙ so_far)
+    let added_is : front' ≡ front ++ record { kind = lexeme.kind; line = p.line } ∷ [] = added ∙ ap (λ l. front ++ record { kind = lexeme.kind; line = l } ∷ []) line_is in
+    rw (awaited, last_is, added_is) (sym step ∙ so_far)
 
-pub on_fault : (awaits : Awaits) (before at : ℕ) (text : List Placed) (d : Placed) (left : List ℕ) (front : List Token) (fault : LexError) (whole : Result (List Token) LexError) →
+pub on_fault : (awaits : Awaits) (before at line : ℕ) (text : List Placed) (d : Placed) (bytes lines left : List ℕ) (front : List Token) (fault : LexError) (whole : Result (List Token) LexError) →
+    bytes ≡ bytes_of text →
+    lines ≡ lines_of (drop at text) →
+    line ≡ get_or lines 0 0 →
     left ≡ bytes_of (drop at text) →
     tokens_behind front (tokens_from 0 awaits before (drop at text)) ≡ whole →
-    at < length text →
-    is_separator (get_or text at d).byte ≡ false →
-    next_lexeme awaits before (get_or text at d).line left ≡ Err fault →
+    at < length bytes →
+    is_separator (get_or bytes at 0) ≡ false →
+    next_lexeme awaits before line left ≡ Err fault →
     whole ≡ Err fault
-on_fault awaits before at text d left front fault whole same so_far within other next =
+on_fault awaits before at line text d bytes lines left front fault whole placed on_lines first same so_far inside other next =
     let p = get_or text at d in
-    let next_is : next_lexeme awaits before p.line (bytes_of (drop at text)) ≡ Err fault = ap (next_lexeme awaits before p.line) (sym same) ∙ next in
-    sym so_far ∙ at_fault awaits before at text p front fault within (get_or-default text at p d within) other next_is
+    let within : at < length text = omega (arith, inside, ap length placed, length_bytes text) in
+    let line_is : line ≡ p.line = first ∙ line_at at text lines d within on_lines in
+    let not_one : is_separator p.byte ≡ false = ap is_separator (sym (here at text bytes d placed within)) ∙ other in
+    let next_is : next_lexeme awaits before p.line (bytes_of (drop at text)) ≡ Err fault = (λ k. next_lexeme awaits before (sym line_is k) (sym same k)) ∙ next in
+    sym so_far ∙ at_fault awaits before at text p front fault within (get_or-default text at p d within) not_one next_is
 
 pub fault_answer : (whole answer : Result (List Token) LexError) (found : LexError) → IsErrAnd answer (λ e. e ≡ found) → (found ≢ error.NoMemory → whole ≡ Err found) → Answers error.NoMemory whole answer
 fault_answer whole (Ok tokens) found is h = absurd is

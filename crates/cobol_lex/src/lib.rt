@@ -34,8 +34,8 @@ pub use laws::{
     tokens_cover,
 };
 use lexeme::next_lexeme;
-use ref_format::Placed;
-use separator::{bytes_of, separators_end};
+use ref_format::ProgramText;
+use separator::separators_end;
 use std::alloc::Global;
 pub use token::{Token, TokenKind};
 
@@ -43,29 +43,32 @@ pub use token::{Token, TokenKind};
 ///
 /// The bytes are on the lines that `text` gives them. A sign at the beginning of a text doesn't
 /// begin a number, since nothing comes before it.
-pub fn tokens(alloc: Global, text: &[Placed]) -> Result<Items<Token>, LexError>
+pub fn tokens(alloc: Global, text: &ProgramText) -> Result<Items<Token>, LexError>
     ensures { Answers Memory (tokens_of text.now) result }
 {
-    let held = bytes_of(alloc, text)?;
-    let bytes = held.as_slice();
+    let bytes = text.bytes();
+    let mut lines = text.lines();
     let mut tokens = Items::new(alloc);
     let mut awaits = Awaits::Any;
     let mut before = 0;
     let mut at = 0;
-    while at < text.len() {
-        let placed = text[at];
-        if is_separator(placed.byte) {
-            at = separators_end(bytes, at);
+    while at < bytes.len() {
+        if is_separator(bytes[at]) {
+            let end = separators_end(bytes, at);
+            lines.pass(end - at);
+            at = end;
             before = bytes[at - 1];
             continue;
         }
-        let lexeme = next_lexeme(alloc, awaits, before, placed.line, &bytes[at..])?;
+        let line = lines.first();
+        let lexeme = next_lexeme(alloc, awaits, before, line, &bytes[at..])?;
         awaits = awaits_behind(awaits, &lexeme.kind);
+        lines.pass(lexeme.length);
         at += lexeme.length;
         before = bytes[at - 1];
         tokens.push(Token {
             kind: lexeme.kind,
-            line: placed.line,
+            line,
         })?;
     }
     Ok(tokens)

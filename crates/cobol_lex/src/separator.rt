@@ -1,14 +1,11 @@
-//! Runs of separators, and the bytes of a text.
+//! Runs of separators.
 
-ghost use Rattle.std.specs.Prelude.{◌≡◌, ◌==◌, ◌<◌, ◌≤◌, ℕ, true, length, slice_index, IfOk};
+ghost use Rattle.std.specs.Prelude.{◌≡◌, ◌==◌, ◌<◌, ◌≤◌, ℕ, true, length, slice_index};
 ghost use Rattle.cob_base.specs.Bytes.{space};
-ghost use Rattle.ref_format.specs.Placed.{bytes_of};
 ghost use Rattle.cobol_lex.specs.Byte.{is_separator};
 
 use crate::byte::is_separator;
 use crate::lanes::space_run;
-use ref_format::Placed;
-use std::alloc::{AllocError, Global};
 
 /// Where the run of separators that begins at a place ends.
 pub fn separators_end(bytes: &[u8], at: usize) -> usize
@@ -42,24 +39,5 @@ fn spaces(bytes: &[u8]) -> usize
         0
     } else {
         space_run(bytes)
-    }
-}
-
-/// The bytes of a text, without their lines.
-pub fn bytes_of(alloc: Global, text: &[Placed]) -> Result<Vec<u8>, AllocError>
-    ensures { IfOk result (λ bytes. bytes.items ≡ bytes_of text.now) }
-{
-    let mut bytes = Vec::new(alloc);
-    bytes.resize(text.len(), 0)?;
-    copy_bytes(bytes.as_mut_slice(), text);
-    Ok(bytes)
-}
-
-fn copy_bytes(to: &mut [u8], text: &[Placed])
-    requires { length to.old ≡ length text.now }
-    ensures { to.new ≡ bytes_of text.now }
-{
-    for (at, placed) in text.iter().enumerate() {
-        to[at] = placed.byte;
     }
 }

@@ -133,9 +133,24 @@ impl Layout {
         self.out.add(b"       ")?;
         self.add_spaces(unit.column.saturating_sub(8))?;
         self.column = unit.column;
-        let bytes = spelled(alloc, first)?;
-        self.put_all(bytes.as_slice())?;
+        self.add_first(alloc, first)?;
         self.add_rest(alloc, unit.column, no_space_behind(first), rest)
+    }
+
+    /// Adds the token that a unit begins with.
+    fn add_first(&mut self, alloc: Global, token: &TokenKind) -> Result<(), NoMemory>
+        requires { self.old.column ≤ 73 }
+        ensures out { OnOk result
+            (self.new.out ≡ self.old.out ++ spread self.old.column false (written token.now)) }
+        ensures column { OnOk result
+            (self.new.column ≡ column_behind self.old.column false (written token.now)) }
+        ensures within { OnOk result (self.new.column ≤ 73) }
+    {
+        if let Some(bytes) = held_bytes(token) {
+            return self.put_all(bytes);
+        }
+        let bytes = spelled(alloc, token)?;
+        self.put_all(bytes.as_slice())
     }
 
     /// Adds a token of a unit with this margin.

@@ -9,6 +9,7 @@ use cob_base::{NoMemory, Text};
 use cob_tree::Number;
 use cobol_lex::TokenKind;
 use std::alloc::Global;
+use std::slice::from_ref;
 
 /// The bytes with which a token is written, where it holds them itself.
 pub fn held_bytes(token: &TokenKind) -> Option<&[u8]>
@@ -18,7 +19,12 @@ pub fn held_bytes(token: &TokenKind) -> Option<&[u8]>
         TokenKind::Word(word) => Some(word.as_slice()),
         TokenKind::Digits(digits) => Some(digits.as_slice()),
         TokenKind::Picture(picture) => Some(picture.as_slice()),
-        _ => None,
+        TokenKind::Period => Some(b".".as_slice()),
+        TokenKind::Mark(mark) => Some(from_ref(mark)),
+        TokenKind::LessEqual => Some(b"<=".as_slice()),
+        TokenKind::GreaterEqual => Some(b">=".as_slice()),
+        TokenKind::Power => Some(b"**".as_slice()),
+        TokenKind::Decimal(_) | TokenKind::Literal(_) => None,
     }
 }
 

@@ -31,7 +31,7 @@ use cobol_lex::{LexError, Token, tokens};
 use declaration_checks::{Declared, declared_of};
 use parser_combinators::faults::{name_fault, passed_by_one};
 use parser_combinators::{Cursor, Note, Unread, Why};
-use ref_format::{FormatError, Placed, unfold};
+use ref_format::{FormatError, ProgramText, unfold};
 use std::alloc::Global;
 
 /// A program as its tokens spell it, and the first fault of a name in it.
@@ -282,7 +282,7 @@ fn format_refusal(error: FormatError) -> ReadRefusal
     }
 }
 
-fn lexed(alloc: Global, text: &[Placed]) -> Result<Items<Token>, ReadRefusal>
+fn lexed(alloc: Global, text: &ProgramText) -> Result<Items<Token>, ReadRefusal>
     ensures { Leads (answers.lexed (lexing.tokens_of text.now)) answers.with_few_tokens result }
 {
     match tokens(alloc, text) {
@@ -291,7 +291,7 @@ fn lexed(alloc: Global, text: &[Placed]) -> Result<Items<Token>, ReadRefusal>
     }
 }
 
-fn formatted(alloc: Global, bytes: &[u8]) -> Result<Items<Placed>, ReadRefusal>
+fn formatted(alloc: Global, bytes: &[u8]) -> Result<ProgramText, ReadRefusal>
     requires { length bytes.now ≤ max_source }
     ensures { Leads (answers.formatted (program_text bytes.now))
         (λ text. answers.lexed (lexing.tokens_of text)) result }
@@ -320,7 +320,8 @@ pub fn answer_of(alloc: Global, bytes: &[u8]) -> Result<Program, ReadRefusal>
 {
     within_source(bytes)?;
     let text = formatted(alloc, bytes)?;
-    let tokens = lexed(alloc, text.as_slice())?;
+    let tokens = lexed(alloc, &text)?;
+    drop(text);
     with_few_tokens(tokens.as_slice())?;
     without_left_out(tokens.as_slice())?;
     let spelled = parsed(alloc, tokens.as_slice())?;

@@ -131,10 +131,11 @@ falls_past plan paragraph state past =
 
 -- no return is pending
 pub ends_falling : (old : Machine) (frames : List Frame) (new : Machine) (result : Result StepOutcome NoMemory) →
-    pending_of old.plan.program.now old.frames ≡ [] → frames ≡ [] →
+    pending_of old.plan.program.now old.frames ≡ [] → pending_of old.plan.program.now frames ≡ [] →
     IfOk result (λ step. (world : World) (trace : Trace) (rest : List Item) → Follows step new world trace (falls_by old.plan old.paragraph (state_with (record old { frames = frames }) rest (memory_in old.held.store world) trace))) →
     IfOk result (λ step. (world : World) (trace : Trace) (rest : List Item) → Follows step new world trace (ends_by old.plan (pending_of old.plan.program.now old.frames) (state_with old rest (memory_in old.held.store world) trace)))
-ends_falling old frames new result none empty h = rw none (subst (λ (list : List Frame). IfOk result (λ step. (world : World) (trace : Trace) (rest : List Item) → Follows step new world trace (falls_by old.plan old.paragraph (state_with (record old { frames = list }) rest (memory_in old.held.store world) trace)))) empty h)
+ends_falling old frames new result none empty h =
+    rw none (subst (λ (list : List Pending). IfOk result (λ step. (world : World) (trace : Trace) (rest : List Item) → Follows step new world trace (falls_by old.plan old.paragraph (record (state_with old rest (memory_in old.held.store world) trace) { pending = list })))) empty h)
 
 -- a return is pending that isn't made here
 pub ends_passing : (old : Machine) (frames : List Frame) (new : Machine) (result : Result StepOutcome NoMemory) (top : Pending) (others : List Pending) →

@@ -23,7 +23,7 @@ use Rattle.cobol_run.specs.declared.machine.StepOutcome.{StepOutcome}
 use Rattle.cobol_run.specs.declared.machine.StepOutcome.TheVariants as step
 use Rattle.cobol_run.specs.declared.running.Ran.TheVariants as ran
 use Rattle.cobol_run.specs.declared.events.Finished.TheVariants as finished
-use Rattle.cobol_run.specs.Events.{Ended, FinishFalls, FinishNames, Finishes, LeftSoFar, Shows, Tracks, TracksOn, finished_by, step_events}
+use Rattle.cobol_run.specs.Events.{FinishFalls, FinishNames, Finishes, LeftSoFar, Shows, Tracks, TracksOn, finished_by, step_events}
 use Rattle.cobol_run.specs.Falling.{FellNamed, NamesFault, SameBench}
 use Rattle.cobol_run.specs.Machine.{ending_seen, state_in, steps_by}
 use Rattle.cobol_run.specs.Over.{FollowsOver, SoFarOver, StandsOver, TellFiles}

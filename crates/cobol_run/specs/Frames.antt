@@ -1,5 +1,6 @@
 -- What is still to do, as the theory of control has it.
 use Rattle.std.specs.Prelude.{ℕ, ◌≡◌, suc, Bool, false, ◌==◌, List, [], ◌∷◌, drop, Option, Some, None}
+use Rattle.std.specs.Borrow.{Bor}
 use Rattle.cob_tree.specs.declared.program.Sentence.{Sentence}
 use Rattle.cob_tree.specs.declared.program.Paragraph.{Paragraph}
 use Rattle.cob_tree.specs.declared.program.Program.{Program}
@@ -13,6 +14,7 @@ use Rattle.cobol_run.specs.declared.frame.LoopProgress.{LoopProgress}
 use Rattle.cobol_run.specs.declared.frame.LoopProgress.TheVariants.{Counted, Tests, Steps, StepsAfter}
 use Rattle.cobol_run.specs.declared.frame.Frame.{Frame}
 use Rattle.cobol_run.specs.declared.frame.Frame.TheVariants as frames
+use Rattle.cobol_run.specs.declared.frames.First.{First}
 use Rattle.cobol_run.specs.declared.frames.Return.{Return}
 use Rattle.cobol_run.specs.declared.frames.Head.{Head}
 use Rattle.cobol_run.specs.declared.frames.Head.TheVariants as head
@@ -52,6 +54,14 @@ rest_of last (frames.Turn turning body ∷ below) =
     Turn (turning_seen turning) (body_seen last body) ∷ rest_of last below
 rest_of last (frames.Return end paragraph ∷ below) = []
 
+-- what is done first as frames, before others
+abbrev pub sentences_kept : Option (Bor (List Sentence)) → List Frame → List Frame
+sentences_kept None below = below
+sentences_kept (Some sentences) below = frames.Sentences sentences ∷ below
+
+abbrev pub first_before : First → List Frame → List Frame
+first_before first below = frames.Stmts first.stmts ∷ sentences_kept first.sentences below
+
 -- the last paragraph of the section that a paragraph is in
 abbrev pub last_in : List Paragraph → ℕ → ℕ
 last_in paragraphs paragraph = section_last paragraph (drop (suc paragraph) paragraphs)
@@ -81,7 +91,9 @@ ends_here end (frames.Turn turning body) = false
 
 -- the return that was made last is taken, or none was pending and nothing is left
 abbrev pub TakesReturn : Program → Option Return → (before after : List Frame) → Type 0
-TakesReturn program None before after = (pending_of program before ≡ []) × (after ≡ [])
+TakesReturn program None before after =
+    (pending_of program before ≡ []) × (pending_of program after ≡ [])
+    × ((last : ℕ) → rest_of last after ≡ [])
 TakesReturn program (Some return) before after =
     pending_of program before
     ≡ record {

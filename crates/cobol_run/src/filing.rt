@@ -18,15 +18,13 @@ ghost use Rattle.cobol_run.specs.Plan.{declared_by, memory_in};
 ghost use Rattle.cobol_run.specs.Points.{stmt_operations};
 ghost use Rattle.cobol_run.specs.NextStep.{KeepsPending};
 
-use crate::frame::Frame;
-use crate::frames::push_stmts;
+use crate::frames::{Frames, push_stmts};
 use crate::held::{Held, Plan};
 use crate::next_step::stmts_or_none;
 use cob_act::files::{
     FileWork, ReadRequest, WriteRequest, all_opened, all_shut, read_one, rewritten, written,
 };
 use cob_act::{ActOutcome, has_arms};
-use cob_store::Stack;
 use cob_tree::{Arms, Place, Stmt};
 use file_model::operations::{FileFault, Shown};
 use file_model::{Bench, FileTable};
@@ -59,7 +57,7 @@ fn place_of(place: &Option<Place>) -> Option<&Place>
 
 // Makes the arm that a READ chose the first thing to be done.
 fn push_arm<'a>(
-    frames: &mut Stack<Frame<'a>>,
+    frames: &mut Frames<'a>,
     arms: &'a Arms,
     done: ActOutcome,
 ) -> Result<ActOutcome, FileFault>
@@ -81,7 +79,7 @@ fn push_arm<'a>(
 #[tactic(auto, using(crate::proofs::FallLemmas::arm_asks_none, crate::proofs::FallLemmas::none_fell))]
 pub fn filed<'a>(
     plan: &Plan,
-    frames: &mut Stack<Frame<'a>>,
+    frames: &mut Frames<'a>,
     held: &mut Held,
     table: &mut FileTable,
     bench: &mut Bench,

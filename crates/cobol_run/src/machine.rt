@@ -24,15 +24,15 @@ ghost use Rattle.cobol_run.specs.NextStep.{KeepsPending};
 ghost use Rattle.cobol_run.specs.Events.{IsFiled, Shows};
 
 use crate::filing::{filed, is_filing};
-use crate::frame::Frame;
-use crate::frames::{Head, is_pending, leave, next, push_sentences, take_return};
+use crate::frames::{
+    Frames, Head, Return, is_pending, leave, next, push_return, push_sentences, take_return,
+};
 use crate::held::{Held, Plan, names};
 use crate::next_step::turning_way;
 use crate::statement::{jumps, performed_once, stmt_way};
 use cob_act::ActOutcome;
 use cob_act::files::FileWork;
 use cob_base::{NoMemory, Text};
-use cob_store::Stack;
 use cob_tree::{Abend, FlowFault, Paragraph, Place, Stmt};
 use file_model::operations::{FileFault, Shown};
 use file_model::{Bench, FileTable};
@@ -61,7 +61,7 @@ pub enum StepOutcome {
 pub struct Machine<'a> {
     pub plan: Plan<'a>,
     /// What is still to do, the returns that are pending among it.
-    pub frames: Stack<Frame<'a>>,
+    pub frames: Frames<'a>,
     pub paragraph: u32,
     pub held: Held,
     /// The state of each of its files.
@@ -159,7 +159,7 @@ impl<'a> Machine<'a> {
         ensures table { self.new.table ≡ self.old.table }
         ensures work { self.new.work ≡ self.old.work }
     {
-        leave(&mut self.frames)?;
+        leave(&mut self.frames);
         self.paragraph = number;
         let paragraphs = self.plan.program.paragraphs.as_slice();
         if (number as usize) < paragraphs.len() {
@@ -211,10 +211,7 @@ impl<'a> Machine<'a> {
                     let fault = FlowFault::Overlap(self.paragraph);
                     return Ok(StepOutcome::Over(Ending::Faulted(fault)));
                 }
-                self.frames.push(Frame::Return {
-                    end: top.end,
-                    paragraph: top.paragraph,
-                })?;
+                push_return(&mut self.frames, top)?;
                 self.fall()
             }
         }
@@ -235,10 +232,11 @@ impl<'a> Machine<'a> {
             let fault = FlowFault::Reentry(exit);
             return Ok(StepOutcome::Over(Ending::Faulted(fault)));
         }
-        self.frames.push(Frame::Return {
+        let back = Return {
             end: exit,
             paragraph: self.paragraph,
-        })?;
+        };
+        push_return(&mut self.frames, back)?;
         self.go_to(entry)?;
         Ok(StepOutcome::On)
     }
@@ -294,7 +292,7 @@ impl<'a> Machine<'a> {
         ensures work { self.new.work ≡ self.old.work }
     {
         let last = section_last(self.plan.program.paragraphs.as_slice(), self.paragraph);
-        leave(&mut self.frames)?;
+        leave(&mut self.frames);
         self.paragraph = last;
         Ok(StepOutcome::On)
     }

@@ -15,12 +15,11 @@ ghost use Rattle.cobol_run.specs.Frames.{body_seen, rest_of, turning_seen};
 ghost use Rattle.cobol_run.specs.Plan.{declared_by, memory_in};
 ghost use Rattle.cobol_run.specs.NextStep.{KeepsPending, Leads, arm_at, either, loop_meant, on, steps_after_meant, steps_begun, steps_meant, stmts_or_none, turn_meant, way_seen};
 
-use crate::frame::{Body, Frame, LoopProgress};
-use crate::frames::{push_body, push_stmts, push_turn, turn_on};
+use crate::frame::{Body, LoopProgress};
+use crate::frames::{Frames, push_body, push_stmts, push_turn, turn_on};
 use crate::held::{Held, Plan, acts, augments, calculates, counts, evaluates, sets, tests};
 use cob_act::ActOutcome;
 use cob_base::{Items, NoMemory};
-use cob_store::Stack;
 use cob_tree::{Arms, Calc, Cond, Control, Operand, Place, Stmt, Subject, Target, When};
 
 /// Does a statement that acts and needs no device.
@@ -38,7 +37,7 @@ pub fn simple_way(plan: &Plan, held: &mut Held, stmt: &Stmt) -> Result<ActOutcom
 /// IF: its chosen statements are to be done first.
 pub fn if_way<'a>(
     plan: &Plan,
-    frames: &mut Stack<Frame<'a>>,
+    frames: &mut Frames<'a>,
     held: &Held,
     cond: &Cond,
     yes: &'a [Stmt],
@@ -83,7 +82,7 @@ fn arm_at<'a>(whens: &'a [When], other: &'a Option<Items<Stmt>>, arm: usize) -> 
 /// EVALUATE: the statements of the arm that it chooses are to be done first.
 pub fn evaluate_way<'a>(
     plan: &Plan,
-    frames: &mut Stack<Frame<'a>>,
+    frames: &mut Frames<'a>,
     held: &Held,
     subject: &Subject,
     whens: &'a [When],
@@ -108,7 +107,7 @@ pub fn evaluate_way<'a>(
 /// done first.
 pub fn arith_way<'a>(
     plan: &Plan,
-    frames: &mut Stack<Frame<'a>>,
+    frames: &mut Frames<'a>,
     held: &mut Held,
     calc: &Calc,
     into: &[Target],
@@ -136,7 +135,7 @@ pub fn arith_way<'a>(
 /// Begins a loop by TIMES.
 pub fn times_way<'a>(
     plan: &Plan,
-    frames: &mut Stack<Frame<'a>>,
+    frames: &mut Frames<'a>,
     held: &Held,
     amount: &Operand,
     body: Body<'a>,
@@ -158,7 +157,7 @@ pub fn times_way<'a>(
 /// Begins a loop by UNTIL.
 pub fn until_way<'a>(
     plan: &Plan,
-    frames: &mut Stack<Frame<'a>>,
+    frames: &mut Frames<'a>,
     held: &Held,
     after: bool,
     cond: &'a Cond,
@@ -195,7 +194,7 @@ pub struct Varied<'a> {
 }
 
 fn begin_steps<'a>(
-    frames: &mut Stack<Frame<'a>>,
+    frames: &mut Frames<'a>,
     after: bool,
     stepped: Stepped<'a>,
     body: Body<'a>,
@@ -223,7 +222,7 @@ fn begin_steps<'a>(
 /// Begins a loop by VARYING.
 pub fn varying_way<'a>(
     plan: &Plan,
-    frames: &mut Stack<Frame<'a>>,
+    frames: &mut Frames<'a>,
     held: &mut Held,
     varied: Varied<'a>,
     body: Body<'a>,
@@ -248,7 +247,7 @@ pub fn varying_way<'a>(
 // Makes a test of a loop: one more turn, or none.
 fn test_turn<'a>(
     plan: &Plan,
-    frames: &mut Stack<Frame<'a>>,
+    frames: &mut Frames<'a>,
     held: &Held,
     until: &Cond,
     turning: LoopProgress<'a>,
@@ -272,7 +271,7 @@ fn test_turn<'a>(
 
 fn counted_way<'a>(
     plan: &Plan,
-    frames: &mut Stack<Frame<'a>>,
+    frames: &mut Frames<'a>,
     held: &Held,
     turns: u128,
     body: Body<'a>,
@@ -291,7 +290,7 @@ fn counted_way<'a>(
 // VARYING tested before: each arrival but the first begins with the augmenting ADD.
 fn steps_way<'a>(
     plan: &Plan,
-    frames: &mut Stack<Frame<'a>>,
+    frames: &mut Frames<'a>,
     held: &mut Held,
     reached: bool,
     stepped: Stepped<'a>,
@@ -319,7 +318,7 @@ fn steps_way<'a>(
 // VARYING tested after.
 fn steps_after_way<'a>(
     plan: &Plan,
-    frames: &mut Stack<Frame<'a>>,
+    frames: &mut Frames<'a>,
     held: &mut Held,
     stepped: Stepped<'a>,
     body: Body<'a>,
@@ -349,7 +348,7 @@ fn steps_after_way<'a>(
 /// Does what is left of a loop: one more turn, or none.
 pub fn turning_way<'a>(
     plan: &Plan,
-    frames: &mut Stack<Frame<'a>>,
+    frames: &mut Frames<'a>,
     held: &mut Held,
     turning: LoopProgress<'a>,
     body: Body<'a>,
@@ -381,7 +380,7 @@ pub fn turning_way<'a>(
 /// Begins a loop; under `Once` its body is done once.
 pub fn control_way<'a>(
     plan: &Plan,
-    frames: &mut Stack<Frame<'a>>,
+    frames: &mut Frames<'a>,
     held: &mut Held,
     control: &'a Control,
     body: Body<'a>,

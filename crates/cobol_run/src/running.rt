@@ -20,12 +20,13 @@ ghost use Rattle.cobol_run.specs.Plan.{declared_by};
 ghost use Rattle.cobol_run.specs.Running.{RunsAs, SoFar, TurnsTo, since};
 
 use crate::constant_places::with_known;
+use crate::frames::Frames;
 use crate::held::{Held, Plan};
 use crate::machine::{Ending, Machine, StepOutcome};
 use cob_act::files::{FileWork, close_left};
 use cob_base::giving::give_all;
 use cob_base::{NoMemory, Sink, Text};
-use cob_store::{Stack, Store, layout};
+use cob_store::{Store, layout};
 use cob_tree::Program;
 use file_model::operations::{Shown, Watched};
 use file_model::{Bench, Device, FileTable};
@@ -79,7 +80,7 @@ pub fn start<'a>(alloc: Global, program: &'a Program) -> Result<Machine<'a>, NoM
     let areas = with_known(program, areas, &store)?;
     let mut machine = Machine {
         plan: Plan { program, areas },
-        frames: Stack::new(alloc),
+        frames: Frames::new(alloc),
         paragraph: 0,
         held: Held {
             store,

@@ -11,13 +11,12 @@ ghost use Rattle.cobol_run.specs.Plain.{once_of};
 ghost use Rattle.cobol_run.specs.Plan.{declared_by};
 ghost use Rattle.cobol_run.specs.NextStep.{KeepsPending, LeadsWhere};
 
-use crate::frame::{Body, Frame};
-use crate::frames::{leave, leave_loop, leave_sentence};
+use crate::frame::Body;
+use crate::frames::{Frames, leave, leave_loop, leave_sentence};
 use crate::held::{Held, Plan};
 use crate::next_step::{arith_way, control_way, evaluate_way, if_way, simple_way};
 use cob_act::{ActOutcome, has_arms};
 use cob_base::NoMemory;
-use cob_store::Stack;
 use cob_tree::{Control, Stmt};
 
 /// A range that is performed once.
@@ -67,7 +66,7 @@ pub fn jumps(stmt: &Stmt) -> bool
 /// Does a statement that neither jumps nor is a PERFORM without a control.
 pub fn stmt_way<'a>(
     plan: &Plan,
-    frames: &mut Stack<Frame<'a>>,
+    frames: &mut Frames<'a>,
     held: &mut Held,
     stmt: &'a Stmt,
 ) -> Result<ActOutcome, NoMemory>
@@ -117,7 +116,7 @@ pub fn stmt_way<'a>(
         }
         Stmt::Exit => simple_way(plan, held, stmt),
         Stmt::ExitParagraph => {
-            leave(frames)?;
+            leave(frames);
             Ok(ActOutcome::Went)
         }
         Stmt::ExitPerform { cycle } => {

@@ -19,6 +19,8 @@ pub mod Loops
 pub mod Shapes
 -- Graphs of ranges as lists of nodes, and how Join, Loop and Inline reduce them.
 pub mod Reduced
+-- Every part of a tree or a graph is so: each statement in it, and each choice at an end.
+pub mod EachTree
 -- What holds of the rules: the walk by recursion is the walk step by step, each rule keeps what a
 -- walk does, and a shaped family does what it did.
 pub mod Laws

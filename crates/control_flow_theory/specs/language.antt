@@ -8,6 +8,8 @@ pub mod Items
 pub mod Control
 -- no jump, and each paragraph but the first performed from an earlier one
 pub mod Structured
+-- what is asked of one statement, asked of each in it
+pub mod Each
 -- no word on an added item
 pub mod Own
 -- each item number below 2^31

@@ -1,6 +1,6 @@
 //! A mask as a whole, and a number that is cut to its digits.
 
-ghost use Rattle.std.specs.Prelude.{◌≡◌, ◌^◌, ◌<◌, ◌≤◌, unsigned_abs};
+ghost use Rattle.std.specs.Prelude.{◌≡◌, ◌^◌, ◌<◌, unsigned_abs};
 ghost use Rattle.edit_fields.specs.Field as fields;
 ghost use Rattle.edit_fields.specs.Field.{IsMask, IsNumber};
 

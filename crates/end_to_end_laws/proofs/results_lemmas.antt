@@ -14,3 +14,5 @@ pub mod result_procedures_lemmas
 pub mod readable_results_lemmas
 -- The headline for every program that is read: its result is structured and behaves as it did.
 pub mod read_headline_lemmas
+-- What a program is restructured to, whatever the limits on a result, and that it behaves as it did.
+pub mod restructured_programs_lemmas

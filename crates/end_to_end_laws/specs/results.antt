@@ -14,3 +14,5 @@ pub mod result_procedures
 pub mod readable_results
 -- The headline for every program that is read: its result is structured and behaves as it did.
 pub mod read_headline
+-- What a program is restructured to, whatever the limits on a result.
+pub mod restructured_programs

@@ -10,6 +10,7 @@ pub mod added_reading;
 pub mod fit_sources;
 pub mod read_headline;
 pub mod readable_results;
+pub mod restructured_programs;
 pub mod result_bodies;
 pub mod result_entries;
 pub mod result_procedures;

@@ -85,43 +85,49 @@ fn errors_are_displayed(rt: HostRuntime) -> Result<(), Fail> {
 
 // An error that holds another says what that says.
 #[test]
-fn errors_of_parts_are_displayed(rt: HostRuntime) -> Result<(), Fail> {
-    let alloc = rt.alloc();
-    let line = FormatError::Fault(FormatFault::BadByte(2));
-    expect(
-        &rt,
-        alloc,
-        &[
-            (line, "a control character in line 2"),
-            (FormatError::NoMemory, OUT),
-        ],
-    )?;
-    let token = LexError::Fault(LexFault::BadWord(5));
-    expect(
-        &rt,
-        alloc,
-        &[(token, "bad word in line 5"), (LexError::NoMemory, OUT)],
-    )?;
+fn errors_of_texts_are_displayed(rt: HostRuntime) -> Result<(), Fail> {
+    let lines = [
+        (
+            FormatError::Fault(FormatFault::BadByte(2)),
+            "a control character in line 2",
+        ),
+        (FormatError::NoMemory, OUT),
+    ];
+    expect(&rt, rt.alloc(), &lines)?;
+    let tokens = [
+        (LexError::Fault(LexFault::BadWord(5)), "bad word in line 5"),
+        (LexError::NoMemory, OUT),
+    ];
+    expect(&rt, rt.alloc(), &tokens)
+}
+
+#[test]
+fn errors_of_parsing_are_displayed(rt: HostRuntime) -> Result<(), Fail> {
     let limit = past(LimitKind::Terms, false, 501);
-    let syntax = ParseFault::Syntax(8);
     let name = ParseFault::Name(NameFault::Level(12));
     let parsing = [
-        (ParseError::Fault(syntax), "line 8: syntax"),
+        (ParseError::Fault(ParseFault::Syntax(8)), "line 8: syntax"),
         (ParseError::Fault(name), "line 12: a level number"),
         (ParseError::Limit(limit), TERMS),
         (ParseError::NoMemory, OUT),
     ];
-    expect(&rt, alloc, &parsing)?;
-    let result = past(LimitKind::Nesting, true, 501);
+    expect(&rt, rt.alloc(), &parsing)
+}
+
+#[test]
+fn errors_of_splitting_are_displayed(rt: HostRuntime) -> Result<(), Fail> {
+    let limit = past(LimitKind::Nesting, true, 501);
     let nesting = "RESULT LIMIT NESTING COUNTED 501 LIMIT 500";
-    expect(
-        &rt,
-        alloc,
-        &[
-            (SplitFault::Limit(result), nesting),
-            (SplitFault::NoMemory, OUT),
-        ],
-    )?;
+    let splitting = [
+        (SplitFault::Limit(limit), nesting),
+        (SplitFault::NoMemory, OUT),
+    ];
+    expect(&rt, rt.alloc(), &splitting)
+}
+
+#[test]
+fn errors_of_reading_are_displayed(rt: HostRuntime) -> Result<(), Fail> {
+    let limit = past(LimitKind::Terms, false, 501);
     let left = Word::new(b"ALTER").map(|word| ReadFault::LeftOut(word, 17));
     let left = left.unwrap_or(ReadFault::Power(0));
     let reading = [
@@ -131,11 +137,11 @@ fn errors_of_parts_are_displayed(rt: HostRuntime) -> Result<(), Fail> {
             "line 18: ** is left out",
         ),
         (
-            ReadRefusal::Fault(ReadFault::Parse(syntax)),
+            ReadRefusal::Fault(ReadFault::Parse(ParseFault::Syntax(8))),
             "line 8: syntax",
         ),
         (ReadRefusal::Limit(limit), TERMS),
         (ReadRefusal::NoMemory, OUT),
     ];
-    expect(&rt, alloc, &reading)
+    expect(&rt, rt.alloc(), &reading)
 }

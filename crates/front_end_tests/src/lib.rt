@@ -1,4 +1,4 @@
-//! Tests of the crates that read, print, copy and generate, and of numbers: of what no clause of a
+//! Tests of the crates that read, copy and generate, and of numbers: of what no clause of a
 //! contract says.
 //!
 //! They are here, over the finished crates, since a crate with tests of its own is proved twice. A
@@ -24,11 +24,11 @@ mod orders;
 #[cfg(test)]
 mod pictures;
 #[cfg(test)]
-mod printing;
-#[cfg(test)]
 mod stored;
 #[cfg(test)]
 mod streams;
+#[cfg(test)]
+mod texts;
 #[cfg(test)]
 mod tokens;
 #[cfg(test)]

@@ -1,36 +1,63 @@
 //! Sources in the reference format and their texts, worked by hand.
 
-use cob_base::Items;
-use ref_format::{FormatError, FormatFault, Placed, unfold};
+use ref_format::{FormatError, FormatFault, ProgramText, unfold};
 use std::alloc::Global;
 use std::test::Fail;
 
-fn unfolded(alloc: Global, source: &[u8]) -> Result<Items<Placed>, FormatError> {
+fn unfolded(alloc: Global, source: &[u8]) -> Result<ProgramText, FormatError> {
     if source.len() >= 1 << 31 {
         return Err(FormatError::NoMemory);
     }
     unfold(alloc, source)
 }
 
-/// The text of a source, without the spaces at the end of each of its lines.
-fn text_of(alloc: Global, source: &[u8]) -> Result<Vec<u8>, FormatError> {
-    let text = unfolded(alloc, source)?;
-    let mut shown = Vec::new(alloc);
-    for placed in text.as_slice() {
-        if placed.byte == b'\n' {
-            trim(&mut shown);
-        }
-        shown.push(placed.byte).map_err(|_| FormatError::NoMemory)?;
+// What is left behind so many spaces; none where they don't come first.
+fn behind_spaces(bytes: &[u8], count: usize) -> Option<&[u8]> {
+    let mut left = bytes;
+    for _ in 0..count {
+        left = left.strip_prefix(b" ")?;
     }
-    trim(&mut shown);
-    Ok(shown)
+    Some(left)
 }
 
-fn trim(shown: &mut Vec<u8>) {
-    for _ in 0..65 {
-        if let Some(b' ') = shown.last() {
-            let _ = shown.pop();
+// What is left behind spaces and a byte, where the spaces at the end of a line don't count.
+fn behind(bytes: &[u8], spaces: usize, byte: u8) -> Option<&[u8]> {
+    let count = if byte == b'\n' { 0 } else { spaces };
+    match behind_spaces(bytes, count)? {
+        [first, rest @ ..] => { if *first == byte { Some(rest) } else { None } }
+        [] => None,
+    }
+}
+
+// Whether a text is the wanted one, but for the spaces at the end of each of its lines.
+fn is_unspaced(text: &[u8], wanted: &[u8]) -> bool {
+    let mut left = wanted;
+    let mut spaces = 0usize;
+    for byte in text {
+        if *byte == b' ' {
+            spaces = spaces.saturating_add(1);
+        } else {
+            match behind(left, spaces, *byte) {
+                Some(rest) => left = rest,
+                None => return false,
+            }
+            spaces = 0;
         }
+    }
+    left.is_empty()
+}
+
+fn is_unfolded(alloc: Global, source: &[u8], wanted: &[u8]) -> bool {
+    match unfolded(alloc, source) {
+        Ok(text) => is_unspaced(text.bytes(), wanted),
+        Err(_) => false,
+    }
+}
+
+fn fault_of(alloc: Global, source: &[u8]) -> Option<FormatFault> {
+    match unfolded(alloc, source) {
+        Err(FormatError::Fault(fault)) => Some(fault),
+        _ => None,
     }
 }
 
@@ -75,12 +102,10 @@ const TEXTS: [(&[u8], &[u8]); 13] = [
 ];
 
 #[test]
-fn texts(rt: HostRuntime) -> Result<(), Fail> {
-    for (source, want) in TEXTS {
-        let shown = text_of(rt.alloc(), source)?;
-        assert_eq!(rt; shown.as_slice(), want);
+fn texts(rt: HostRuntime) {
+    for (source, wanted) in TEXTS {
+        assert!(rt; is_unfolded(rt.alloc(), source, wanted), "at {wanted:?}");
     }
-    Ok(())
 }
 
 const FAULTS: [(&[u8], FormatFault); 9] = [
@@ -102,15 +127,10 @@ const FAULTS: [(&[u8], FormatFault); 9] = [
 ];
 
 #[test]
-fn faults(rt: HostRuntime) -> Result<(), Fail> {
-    for (source, want) in FAULTS {
-        match text_of(rt.alloc(), source) {
-            Ok(_) => assert!(rt; false, "{want}"),
-            Err(FormatError::Fault(fault)) => assert_eq!(rt; fault, want),
-            Err(FormatError::NoMemory) => assert!(rt; false, "out of memory"),
-        }
+fn faults(rt: HostRuntime) {
+    for (source, wanted) in FAULTS {
+        assert_eq!(rt; fault_of(rt.alloc(), source), Some(wanted), "at {source:?}");
     }
-    Ok(())
 }
 
 #[test]
@@ -118,28 +138,15 @@ fn lines(rt: HostRuntime) -> Result<(), Fail> {
     let source = b"\n       A.\n           \"B\n      -    \"C\".\n";
     let text = unfold(rt.alloc(), source)?;
     let mut rows = [0u32; 5];
-    for placed in text.as_slice() {
-        let row = placed.line as usize;
-        if row < 5 && placed.byte != b' ' {
+    let mut left = text.lines();
+    for byte in text.bytes() {
+        let row = left.first() as usize;
+        if row < 5 && *byte != b' ' {
             rows[row] = rows[row].wrapping_add(1);
         }
+        left.pass(1);
     }
-    assert_eq!(rt; text.len(), 65 + 1 + 65 + 60);
+    assert_eq!(rt; text.bytes().len(), 65 + 1 + 65 + 60);
     assert_eq!(rt; rows, [0, 0, 3, 2, 3]);
-    Ok(())
-}
-
-/// 5,000 lines of 80 bytes, which code that gives up past some number would refuse.
-#[test]
-fn unfolds_a_large_source(rt: HostRuntime) -> Result<(), Fail> {
-    let line =
-        b"000100     DISPLAY \"A LINE OF EIGHTY BYTES\".                           ANNOTATED";
-    let mut source = Vec::new(rt.alloc());
-    for _ in 0..5_000 {
-        source.extend_from_slice(line)?;
-        source.push(b'\n')?;
-    }
-    let text = unfolded(rt.alloc(), &source)?;
-    assert_eq!(rt; text.len(), 5_000 * 66 - 1);
     Ok(())
 }

@@ -28,26 +28,27 @@ fn shows(mask: &[u8], value: Dec, into: &mut [u8]) -> bool {
     }
 }
 
+const SHOWN: [(&[u8], i64, u8, &[u8]); 15] = [
+    (b"ZZ,ZZ9.99", 12345, 1, b" 1,234.50"),
+    (b"ZZ,ZZ9.99", 5, 2, b"     0.05"),
+    (b"$$,$$9.99CR", -123, 1, b"   $12.30CR"),
+    (b"$$,$$9", 123, 0, b"  $123"),
+    (b"+++9", -7, 0, b"  -7"),
+    (b"***,**9", 12, 0, b"*****12"),
+    (b"***.**", 0, 0, b"***.**"),
+    (b"99/99/99", 10203, 0, b"01/02/03"),
+    (b"zzzvzz", 5, 2, b"   05"),
+    (b"ZZZ.ZZ", 0, 0, b"      "),
+    (b"-$ZB9.9", -4, 3, b" $  0.0"),
+    (b"$B$B$", 12, 0, b" $1 2"),
+    (b"--9", -1001, 0, b" -1"),
+    (b"9DB", -10, 0, b"0  "),
+    (b"99DB", -110, 1, b"11DB"),
+];
+
 #[test]
 fn numbers_show(rt: HostRuntime) {
-    let rows: [(&[u8], i64, u8, &[u8]); 15] = [
-        (b"ZZ,ZZ9.99", 12345, 1, b" 1,234.50"),
-        (b"ZZ,ZZ9.99", 5, 2, b"     0.05"),
-        (b"$$,$$9.99CR", -123, 1, b"   $12.30CR"),
-        (b"$$,$$9", 123, 0, b"  $123"),
-        (b"+++9", -7, 0, b"  -7"),
-        (b"***,**9", 12, 0, b"*****12"),
-        (b"***.**", 0, 0, b"***.**"),
-        (b"99/99/99", 10203, 0, b"01/02/03"),
-        (b"zzzvzz", 5, 2, b"   05"),
-        (b"ZZZ.ZZ", 0, 0, b"      "),
-        (b"-$ZB9.9", -4, 3, b" $  0.0"),
-        (b"$B$B$", 12, 0, b" $1 2"),
-        (b"--9", -1001, 0, b" -1"),
-        (b"9DB", -10, 0, b"0  "),
-        (b"99DB", -110, 1, b"11DB"),
-    ];
-    for (mask, value, scale, want) in rows {
+    for (mask, value, scale, want) in SHOWN {
         let mut into = [0; 16];
         if want.len() <= 16 && scale <= 36 {
             let shown = shows(mask, number(value, scale), &mut into[..want.len()]);
@@ -57,31 +58,32 @@ fn numbers_show(rt: HostRuntime) {
     }
 }
 
+const FAULTS: [(&[u8], Option<MaskFault>); 20] = [
+    (b"z(3),z(3).9(2)", None),
+    (b"+B+9", None),
+    (b"$$.$$", None),
+    (b"B(159)9", None),
+    (b"9Z", Some(MaskFault::Order(2))),
+    (b"Z9Z", Some(MaskFault::Order(3))),
+    (b"B+9", Some(MaskFault::Order(3))),
+    (b".$$9", Some(MaskFault::Order(2))),
+    (b"ZZ.Z9", Some(MaskFault::Order(5))),
+    (b"+ZZCR", Some(MaskFault::Order(4))),
+    (b"9.(2)9", Some(MaskFault::Order(2))),
+    (b"Z(0)", Some(MaskFault::Order(4))),
+    (b"ZV(1)", Some(MaskFault::Order(3))),
+    (b"9C", Some(MaskFault::Order(2))),
+    (b"99V9", Some(MaskFault::Order(4))),
+    (b"ZZ9,", Some(MaskFault::Order(4))),
+    (b"B(160)9", Some(MaskFault::Order(7))),
+    (b"", Some(MaskFault::Order(1))),
+    (b"ZX", Some(MaskFault::Symbol(2))),
+    (b"Z(10)9(9)", Some(MaskFault::TooManyDigits(9))),
+];
+
 #[test]
 fn faults_have_places(rt: HostRuntime) {
-    let rows: [(&[u8], Option<MaskFault>); 20] = [
-        (b"z(3),z(3).9(2)", None),
-        (b"+B+9", None),
-        (b"$$.$$", None),
-        (b"B(159)9", None),
-        (b"9Z", Some(MaskFault::Order(2))),
-        (b"Z9Z", Some(MaskFault::Order(3))),
-        (b"B+9", Some(MaskFault::Order(3))),
-        (b".$$9", Some(MaskFault::Order(2))),
-        (b"ZZ.Z9", Some(MaskFault::Order(5))),
-        (b"+ZZCR", Some(MaskFault::Order(4))),
-        (b"9.(2)9", Some(MaskFault::Order(2))),
-        (b"Z(0)", Some(MaskFault::Order(4))),
-        (b"ZV(1)", Some(MaskFault::Order(3))),
-        (b"9C", Some(MaskFault::Order(2))),
-        (b"99V9", Some(MaskFault::Order(4))),
-        (b"ZZ9,", Some(MaskFault::Order(4))),
-        (b"B(160)9", Some(MaskFault::Order(7))),
-        (b"", Some(MaskFault::Order(1))),
-        (b"ZX", Some(MaskFault::Symbol(2))),
-        (b"Z(10)9(9)", Some(MaskFault::TooManyDigits(9))),
-    ];
-    for (text, want) in rows {
+    for (text, want) in FAULTS {
         if text.len() <= 160 {
             assert_eq!(rt; mask_fault(text), want);
         }

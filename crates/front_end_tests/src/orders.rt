@@ -1,156 +1,165 @@
 //! Reads a small grammar, and the parts of one token.
 
-use cob_base::{Boxed, Text, Word};
-use cob_tree::{Number, SpelledDigits};
-use cobol_lex::{Token, TokenKind};
-use parser_combinators::example::{Step, read};
-use parser_combinators::{Cursor, NameKind, Note, Position, Unread};
+use crate::texts::tokens_of;
+use cob_base::{Text, Word};
+use cob_tree::Number;
+use cobol_lex::LexError;
+use parser_combinators::example::{Fault, Step, read};
+use parser_combinators::{Cursor, NameKind, Note, Position, Unread, Why};
 use std::alloc::Global;
 use std::process::Abort;
 use std::test::Fail;
 
-fn text_of(alloc: Global, bytes: &[u8]) -> Result<Text, Fail> {
-    Ok(Text {
-        bytes: Vec::from_slice(alloc, bytes)?,
-    })
+/// A step as it is to be.
+#[derive(Clone, Copy)]
+enum Wanted {
+    Show(&'static [u8]),
+    Go(usize),
+    Repeat,
+    End,
 }
 
-/// The kind of token that a piece of a text without spaces is.
-fn kind_of(alloc: Global, piece: &str) -> Result<TokenKind, Fail> {
-    let bytes = piece.as_bytes();
-    if bytes.iter().all(|b| b.is_ascii_digit()) {
-        return Ok(TokenKind::Digits(text_of(alloc, bytes)?));
-    }
-    match (piece, Word::new(bytes)) {
-        (".", _) => Ok(TokenKind::Period),
-        (_, Some(word)) => Ok(TokenKind::Word(word)),
-        (_, None) => Ok(TokenKind::Mark(bytes.first().copied().unwrap_or(0))),
+fn is_step(step: &Step, wanted: Wanted) -> bool {
+    match wanted {
+        Wanted::Show(wanted) => match step {
+            Step::Show(values) => values.as_slice() == wanted,
+            _ => false,
+        },
+        Wanted::Go(wanted) => match step {
+            Step::Go(index) => *index == wanted,
+            _ => false,
+        },
+        Wanted::Repeat => matches!(step, Step::Repeat),
+        Wanted::End => matches!(step, Step::End),
     }
 }
 
-fn tokens_of(alloc: Global, text: &str) -> Result<Vec<Token>, Fail> {
-    let mut tokens = Vec::new(alloc);
-    let mut number = 0u32;
-    for line in text.lines() {
-        number = number.saturating_add(1);
-        for piece in line.split_ascii_whitespace() {
-            tokens.push(Token {
-                kind: kind_of(alloc, piece)?,
-                line: number,
-            })?;
+fn are_steps(steps: &[Step], wanted: &[Wanted]) -> bool {
+    for (step, wanted) in steps.iter().zip(wanted.iter()) {
+        if !is_step(step, *wanted) {
+            return false;
         }
     }
-    Ok(tokens)
+    steps.len() == wanted.len()
 }
 
-fn words_of(alloc: Global, text: &str) -> Result<Vec<Word>, Fail> {
-    let mut words = Vec::new(alloc);
-    for piece in text.split_ascii_whitespace() {
-        if let Some(word) = Word::new(piece.as_bytes()) {
-            words.push(word)?;
-        }
-    }
-    Ok(words)
-}
-
-/// The steps as a line, or the fault.
-fn answer_of(alloc: Global, known: &str, text: &str) -> Result<String, Fail> {
-    let known = words_of(alloc, known)?;
+// Whether a text is read as these steps, where the names are A and B.
+fn is_read(alloc: Global, text: &str, names: &[Word], wanted: &[Wanted]) -> Result<bool, LexError> {
     let tokens = tokens_of(alloc, text)?;
-    let steps = match read(alloc, &known, &tokens) {
-        Ok(steps) => steps,
-        Err(fault) => return Ok(format!(in alloc; "{fault:?}")?),
-    };
-    let mut line = String::new(alloc);
-    for step in steps.as_slice() {
-        match step {
-            Step::Show(values) => {
-                line.push_str("show")?;
-                for value in values.as_slice() {
-                    line.push_str(&format!(in alloc; " {value}")?)?;
-                }
-            }
-            Step::Go(index) => line.push_str(&format!(in alloc; "go {index}")?)?,
-            Step::Repeat => line.push_str("repeat")?,
-            Step::End => line.push_str("end")?,
-        }
-        line.push_str("; ")?;
+    match read(alloc, names, tokens.as_slice()) {
+        Ok(steps) => Ok(are_steps(steps.as_slice(), wanted)),
+        Err(_) => Ok(false),
     }
-    Ok(line)
+}
+
+// The fault of a text, if it has one.
+fn fault_of(alloc: Global, text: &str, names: &[Word]) -> Result<Option<Fault>, LexError> {
+    let tokens = tokens_of(alloc, text)?;
+    match read(alloc, names, tokens.as_slice()) {
+        Ok(_) => Ok(None),
+        Err(fault) => Ok(Some(fault)),
+    }
+}
+
+const UNKNOWN_FIRST: Fault = Fault::Name(Note {
+    kind: NameKind::Unknown,
+    position: Position { index: 1, line: 1 },
+});
+
+const UNKNOWN_SECOND: Fault = Fault::Name(Note {
+    kind: NameKind::Unknown,
+    position: Position { index: 2, line: 1 },
+});
+
+const READ: [(&str, &[Wanted]); 9] = [
+    // a keyword and a list of one or more
+    ("SHOW 7 .", &[Wanted::Show(&[7])]),
+    ("SHOW 7 8 ( 9 ) .", &[Wanted::Show(&[7, 8, 9])]),
+    // a loop that passes a value on, grouped to the left
+    ("SHOW 9 - 5 - 1 .", &[Wanted::Show(&[3])]),
+    ("SHOW 9 - ( 5 - 1 ) 2 .", &[Wanted::Show(&[5, 2])]),
+    // levels of parentheses
+    ("SHOW ( ( 4 ) ) .", &[Wanted::Show(&[4])]),
+    // an optional word, and names
+    ("GO TO B GO A .", &[Wanted::Go(1), Wanted::Go(0)]),
+    // levels of orders, and an optional end
+    (
+        "REPEAT SHOW 1 GO A END-REPEAT GO B .",
+        &[
+            Wanted::Repeat,
+            Wanted::Show(&[1]),
+            Wanted::Go(0),
+            Wanted::End,
+            Wanted::Go(1),
+        ],
+    ),
+    (
+        "REPEAT REPEAT GO A .",
+        &[
+            Wanted::Repeat,
+            Wanted::Repeat,
+            Wanted::Go(0),
+            Wanted::End,
+            Wanted::End,
+        ],
+    ),
+    (
+        "REPEAT REPEAT GO A END-REPEAT GO B .",
+        &[
+            Wanted::Repeat,
+            Wanted::Repeat,
+            Wanted::Go(0),
+            Wanted::End,
+            Wanted::Go(1),
+            Wanted::End,
+        ],
+    ),
+];
+
+const STOPPED: [(&str, Fault); 16] = [
+    // a keyword and a list of one or more
+    ("SHOW\n.", Fault::Stop(Why::Syntax, 2)),
+    ("SHOW 1\nSHOW", Fault::Stop(Why::Syntax, 2)),
+    ("show 1", Fault::Stop(Why::Syntax, 1)),
+    ("SHOW 12 .", Fault::Stop(Why::Syntax, 1)),
+    // a loop that passes a value on, grouped to the left
+    ("SHOW 9 -\n- 1 .", Fault::Stop(Why::Syntax, 2)),
+    // levels of parentheses
+    ("SHOW ( (\n( 4 ) ) ) .", Fault::Stop(Why::Parens, 2)),
+    ("SHOW ( 4\n.", Fault::Stop(Why::Syntax, 2)),
+    // an optional word, and names
+    ("GO C\nGO D .", UNKNOWN_FIRST),
+    ("GO TO TO\n.", UNKNOWN_SECOND),
+    ("GO C\nSHOW .", Fault::Stop(Why::Syntax, 2)),
+    ("GO 1 .", Fault::Stop(Why::Syntax, 1)),
+    // a choice by the next token
+    ("A .", Fault::Stop(Why::Syntax, 1)),
+    ("", Fault::Stop(Why::Syntax, 1)),
+    // levels of orders, and an optional end
+    ("REPEAT REPEAT\nREPEAT GO A .", Fault::Stop(Why::Nesting, 2)),
+    ("SHOW 1\nEND-REPEAT .", Fault::Stop(Why::Syntax, 2)),
+    // nothing after the end
+    ("SHOW 1 .\nGO A .", Fault::Stop(Why::Syntax, 2)),
+];
+
+fn name(text: &[u8]) -> Result<Word, Fail> {
+    Ok(Word::new(text).ok_or("no word")?)
 }
 
 #[test]
 fn reads_the_small_grammar(rt: HostRuntime) -> Result<(), Fail> {
-    let unknown = "Name(Note { kind: Unknown, position: Position { index: 1, line: 1 } })";
-    for (text, want) in [
-        // a keyword and a list of one or more
-        ("SHOW 7 .", "show 7; "),
-        ("SHOW 7 8 ( 9 ) .", "show 7 8 9; "),
-        ("SHOW\n.", "Stop(Syntax, 2)"),
-        ("SHOW 1\nSHOW", "Stop(Syntax, 2)"),
-        ("show 1", "Stop(Syntax, 1)"),
-        ("SHOW 12 .", "Stop(Syntax, 1)"),
-        // a loop that passes a value on, grouped to the left
-        ("SHOW 9 - 5 - 1 .", "show 3; "),
-        ("SHOW 9 - ( 5 - 1 ) 2 .", "show 5 2; "),
-        ("SHOW 9 -\n- 1 .", "Stop(Syntax, 2)"),
-        // levels of parentheses
-        ("SHOW ( ( 4 ) ) .", "show 4; "),
-        ("SHOW ( (\n( 4 ) ) ) .", "Stop(Parens, 2)"),
-        ("SHOW ( 4\n.", "Stop(Syntax, 2)"),
-        // an optional word, and names
-        ("GO TO B GO A .", "go 1; go 0; "),
-        ("GO C\nGO D .", unknown),
-        (
-            "GO TO TO\n.",
-            "Name(Note { kind: Unknown, position: Position { index: 2, line: 1 } })",
-        ),
-        ("GO C\nSHOW .", "Stop(Syntax, 2)"),
-        ("GO 1 .", "Stop(Syntax, 1)"),
-        // a choice by the next token
-        ("A .", "Stop(Syntax, 1)"),
-        ("", "Stop(Syntax, 1)"),
-        // levels of orders, and an optional end
-        (
-            "REPEAT SHOW 1 GO A END-REPEAT GO B .",
-            "repeat; show 1; go 0; end; go 1; ",
-        ),
-        ("REPEAT REPEAT GO A .", "repeat; repeat; go 0; end; end; "),
-        (
-            "REPEAT REPEAT GO A END-REPEAT GO B .",
-            "repeat; repeat; go 0; end; go 1; end; ",
-        ),
-        ("REPEAT REPEAT\nREPEAT GO A .", "Stop(Nesting, 2)"),
-        ("SHOW 1\nEND-REPEAT .", "Stop(Syntax, 2)"),
-        // nothing after the end
-        ("SHOW 1 .\nGO A .", "Stop(Syntax, 2)"),
-    ] {
-        let answer = answer_of(rt.alloc(), "A B", text)?;
-        assert_eq!(rt; answer.as_str(), want, "at {text}");
+    let names = [name(b"A")?, name(b"B")?];
+    for (text, steps) in READ {
+        assert!(rt; is_read(rt.alloc(), text, &names, steps)?, "at {text}");
+    }
+    for (text, fault) in STOPPED {
+        assert_eq!(rt;
+            fault_of(rt.alloc(), text, &names)?,
+            Some(fault),
+            "at {text}"
+        );
     }
     Ok(())
-}
-
-fn minus_one_and_a_half(alloc: Global) -> Result<TokenKind, Fail> {
-    let number = Number {
-        negative: true,
-        digits: SpelledDigits::new(text_of(alloc, b"15")?),
-        scale: 1,
-    };
-    Ok(TokenKind::Decimal(Boxed::new(alloc, number)?))
-}
-
-fn add(tokens: &mut Vec<Token>, kind: TokenKind) -> Result<(), Fail> {
-    tokens.push(Token { kind, line: 3 })?;
-    Ok(())
-}
-
-fn tokens_of_each_kind(alloc: Global) -> Result<Vec<Token>, Fail> {
-    let mut tokens = tokens_of(alloc, "12\n.")?;
-    add(&mut tokens, TokenKind::Literal(text_of(alloc, b"a b")?))?;
-    add(&mut tokens, TokenKind::Picture(text_of(alloc, b"9(2)")?))?;
-    add(&mut tokens, minus_one_and_a_half(alloc)?)?;
-    Ok(tokens)
 }
 
 fn is_text(read: Result<(Text, Position), Unread>, bytes: &[u8], at: Position) -> bool {
@@ -172,16 +181,16 @@ fn is_number(read: Result<(Number, Position), Unread>, digits: &[u8], at: Positi
 
 const THIRD: Position = Position { index: 2, line: 3 };
 
-const FOURTH: Position = Position { index: 3, line: 3 };
+const FIFTH: Position = Position { index: 4, line: 3 };
 
 // Two faults that are noted, and the one that is kept: the first in the order of tokens counts, and
 // at one token the first kind.
 const NOTES: [(NameKind, Position, NameKind, Position); 5] = [
-    (NameKind::Value, FOURTH, NameKind::Value, FOURTH),
+    (NameKind::Value, FIFTH, NameKind::Value, FIFTH),
     (NameKind::Usage, THIRD, NameKind::Usage, THIRD),
     (NameKind::Level, THIRD, NameKind::Level, THIRD),
     (NameKind::Picture, THIRD, NameKind::Level, THIRD),
-    (NameKind::Unknown, FOURTH, NameKind::Level, THIRD),
+    (NameKind::Unknown, FIFTH, NameKind::Level, THIRD),
 ];
 
 fn expect_first_notes(rt: &impl Abort, cursor: &mut Cursor) {
@@ -198,16 +207,18 @@ fn expect_first_notes(rt: &impl Abort, cursor: &mut Cursor) {
 #[test]
 fn takes_each_kind_of_token(rt: HostRuntime) -> Result<(), Fail> {
     let alloc = rt.alloc();
-    let tokens = tokens_of_each_kind(alloc)?;
-    let mut cursor = Cursor::from_index(&tokens, 0);
-    assert_eq!(rt; (cursor.index(), cursor.left()), (0, 5));
+    let tokens = tokens_of(alloc, "12\n.\n'a b' PIC 9(2) -1.5")?;
+    let mut cursor = Cursor::from_index(tokens.as_slice(), 0);
+    assert_eq!(rt; (cursor.index(), cursor.left()), (0, 6));
     let first = Position { index: 0, line: 1 };
     assert!(rt; is_text(cursor.digits(alloc), b"12", first));
     assert_eq!(rt; cursor.sees_period(), true);
     assert_eq!(rt; cursor.period(), Ok(Position { index: 1, line: 2 }));
     assert!(rt; is_text(cursor.literal(alloc), b"a b", THIRD));
-    assert!(rt; is_text(cursor.picture(alloc), b"9(2)", FOURTH));
-    let last = Position { index: 4, line: 3 };
+    assert_eq!(rt; cursor.sees(b"PIC"), true);
+    cursor.skip();
+    assert!(rt; is_text(cursor.picture(alloc), b"9(2)", FIFTH));
+    let last = Position { index: 5, line: 3 };
     assert!(rt; is_number(cursor.decimal(alloc), b"15", last));
     assert_eq!(rt; cursor.ended(), Ok(()));
     expect_first_notes(&rt, &mut cursor);

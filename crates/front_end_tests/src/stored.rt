@@ -16,37 +16,40 @@ fn values_are_written(rt: HostRuntime) -> Result<(), Fail> {
     Ok(())
 }
 
+const BINARY: [([u8; 2], Option<i128>); 5] = [
+    ([0x27, 0x0F], Some(9999)),
+    ([0x27, 0x10], None),
+    ([0xD8, 0xF1], Some(-9999)),
+    ([0xD8, 0xF0], None),
+    ([0xFF, 0xFF], Some(-1)),
+];
+
+const PACKED: [([u8; 2], Option<i128>); 6] = [
+    ([0x12, 0x3C], Some(123)),
+    ([0x12, 0x3F], Some(123)),
+    ([0x12, 0x3D], Some(-123)),
+    ([0x00, 0x0D], Some(0)),
+    ([0x12, 0x3B], None),
+    ([0x1A, 0x3C], None),
+];
+
+const FILLED: [([u8; 2], Option<i128>); 5] = [
+    ([0x01, 0x2F], Some(12)),
+    ([0x01, 0x2D], None),
+    ([0x41, 0x31], None),
+    ([0x20, 0x20], None),
+    ([0x11, 0x2F], None),
+];
+
 #[test]
 fn bytes_are_read(rt: HostRuntime) -> Result<(), Fail> {
-    let binary = [
-        ([0x27, 0x0F], Some(9999)),
-        ([0x27, 0x10], None),
-        ([0xD8, 0xF1], Some(-9999)),
-        ([0xD8, 0xF0], None),
-        ([0xFF, 0xFF], Some(-1)),
-    ];
-    for (bytes, expected) in binary {
+    for (bytes, expected) in BINARY {
         assert_eq!(rt; binary_read(&bytes, 4, true), expected);
     }
-    let packed = [
-        ([0x12, 0x3C], Some(123)),
-        ([0x12, 0x3F], Some(123)),
-        ([0x12, 0x3D], Some(-123)),
-        ([0x00, 0x0D], Some(0)),
-        ([0x12, 0x3B], None),
-        ([0x1A, 0x3C], None),
-    ];
-    for (bytes, expected) in packed {
+    for (bytes, expected) in PACKED {
         assert_eq!(rt; packed_read(&bytes, 3, true), expected);
     }
-    let filled = [
-        ([0x01, 0x2F], Some(12)),
-        ([0x01, 0x2D], None),
-        ([0x41, 0x31], None),
-        ([0x20, 0x20], None),
-        ([0x11, 0x2F], None),
-    ];
-    for (bytes, expected) in filled {
+    for (bytes, expected) in FILLED {
         assert_eq!(rt; packed_read(&bytes, 2, false), expected);
     }
     Ok(())

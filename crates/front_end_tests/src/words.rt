@@ -22,34 +22,29 @@ fn numbers_words(rt: HostRuntime) -> Result<(), Fail> {
     Ok(())
 }
 
+// A word, whether it is reserved, and whether it is left out.
+const LISTED: [(&[u8], bool, bool); 12] = [
+    (b"ACCESS", true, false),
+    (b"move", true, false),
+    (b"comp-3", true, false),
+    (b"COMPUTATIONAL-3", true, false),
+    (b"ACCEPT", false, true),
+    (b"USE", false, true),
+    (b"special-names", false, true),
+    (b"SYNCHRONIZED", false, true),
+    (b"ID", false, false),
+    (b"X", false, false),
+    (b"77", false, false),
+    (b"CUSTOMER-NAME-OF-THE-LAST-YEAR", false, false),
+];
+
 #[test]
 fn lists(rt: HostRuntime) -> Result<(), Fail> {
-    for text in [b"ACCESS".as_slice(), b"move", b"comp-3", b"COMPUTATIONAL-3"] {
+    for (text, is_reserved, is_left_out) in LISTED {
+        let word = word(text)?;
         assert_eq!(rt;
-            (reserved(&word(text)?), left_out(&word(text)?)),
-            (true, false)
-        );
-    }
-    for text in [
-        b"ACCEPT".as_slice(),
-        b"USE",
-        b"special-names",
-        b"SYNCHRONIZED",
-    ] {
-        assert_eq!(rt;
-            (reserved(&word(text)?), left_out(&word(text)?)),
-            (false, true)
-        );
-    }
-    for text in [
-        b"ID".as_slice(),
-        b"X",
-        b"77",
-        b"CUSTOMER-NAME-OF-THE-LAST-YEAR",
-    ] {
-        assert_eq!(rt;
-            (reserved(&word(text)?), left_out(&word(text)?)),
-            (false, false)
+            (reserved(&word), left_out(&word)),
+            (is_reserved, is_left_out)
         );
     }
     Ok(())

@@ -15,7 +15,8 @@ use std::alloc::Global;
 use std::collections::BTreeMap;
 
 impl Work {
-    /// The graph, to be rewritten.
+    /// The graph, to be rewritten. Out of memory also where 2^32 - 1 of its leaves jump to one
+    /// label: they are counted in 32 bits.
     pub fn from_graph(alloc: Global, graph: Graph) -> Result<Work, NoMemory>
         requires { IsClosed (seen_graph graph) }
         ensures { IfOk result (λ work. seen_work work ≡ seen_graph graph) }

@@ -180,6 +180,77 @@ impl Desk {
     }
 }
 
+/// A call of a program on one of its files, or the closing of all open files.
+#[derive(Clone, Copy)]
+enum Call {
+    Open(How),
+    Close,
+    Read,
+    Write(&'static [u8]),
+    Rewrite(&'static [u8]),
+    Finish,
+}
+
+impl Desk {
+    // The status of a call; of the closing of all files, whether a device failed.
+    fn call(&mut self, file: u32, call: Call, into: &mut [u8]) -> u8 {
+        match call {
+            Call::Open(how) => self.open(file, how),
+            Call::Close => self.close(file),
+            Call::Read => self.read(file, into),
+            Call::Write(bytes) => self.write(file, bytes),
+            Call::Rewrite(bytes) => self.rewrite(file, bytes),
+            Call::Finish => { if self.close_open() { FAILED } else { 0 } }
+        }
+    }
+}
+
+/// A file, a call on it, the status that comes, and the record that is then held.
+type Step = (u32, Call, u8, &'static [u8; 4]);
+
+fn check(rt: &impl Abort, desk: &mut Desk, steps: &[Step]) {
+    let mut record = [b'?'; 4];
+    for (at, step) in steps.iter().enumerate() {
+        let (file, call, status, held) = *step;
+        let came = desk.call(file, call, &mut record);
+        assert_eq!(rt; (at, came, record), (at, status, *held));
+    }
+}
+
+const STATUSES: [Step; 31] = [
+    (0, Call::Close, 42, b"????"),
+    (0, Call::Read, 47, b"????"),
+    (0, Call::Write(b"one "), 48, b"????"),
+    (0, Call::Rewrite(b"one "), 49, b"????"),
+    (0, Call::Open(How::Input), 35, b"????"),
+    (2, Call::Open(How::Output), 30, b"????"),
+    (3, Call::Open(How::Output), 30, b"????"),
+    (4, Call::Open(How::Output), 30, b"????"),
+    (0, Call::Open(How::Output), 0, b"????"),
+    (0, Call::Open(How::Output), 41, b"????"),
+    (1, Call::Open(How::Output), 30, b"????"),
+    (0, Call::Read, 47, b"????"),
+    (0, Call::Write(b"one "), 0, b"????"),
+    (0, Call::Close, 0, b"????"),
+    (1, Call::Open(How::Extend), 0, b"????"),
+    (1, Call::Write(b"tw"), 0, b"????"),
+    (1, Call::Close, 0, b"????"),
+    (0, Call::Open(How::InOut), 0, b"????"),
+    (0, Call::Rewrite(b"two "), 43, b"????"),
+    (0, Call::Write(b"two "), 48, b"????"),
+    (0, Call::Read, 0, b"one "),
+    (0, Call::Read, 0, b"tw  "),
+    (0, Call::Rewrite(b"2222"), 0, b"tw  "),
+    (0, Call::Rewrite(b"2222"), 43, b"tw  "),
+    (0, Call::Read, 10, b"tw  "),
+    (0, Call::Read, 46, b"tw  "),
+    (0, Call::Finish, 0, b"tw  "),
+    (1, Call::Open(How::Input), 0, b"tw  "),
+    (1, Call::Rewrite(b"2222"), 49, b"tw  "),
+    (1, Call::Read, 0, b"one "),
+    (1, Call::Read, 0, b"2222"),
+];
+
 #[test]
 fn each_status_comes(rt: HostRuntime) -> Result<(), Fail> {
     let alloc = rt.alloc();
@@ -189,63 +260,33 @@ fn each_status_comes(rt: HostRuntime) -> Result<(), Fail> {
         bench,
         &[b"A", b"DISK:A", b"OTHER:A", b".A", b"TAPE:A:B"],
     )?;
-    let mut record = [b'?'; 4];
-    let into = record.as_mut_slice();
-    assert!(rt; d.close(0) == 42);
-    assert!(rt; d.read(0, into) == 47);
-    assert!(rt; d.write(0, b"one ") == 48);
-    assert!(rt; d.rewrite(0, b"one ") == 49);
-    assert!(rt; d.open(0, How::Input) == 35);
-    assert!(rt; d.open(2, How::Output) == 30);
-    assert!(rt; d.open(3, How::Output) == 30);
-    assert!(rt; d.open(4, How::Output) == 30);
-    assert!(rt; d.open(0, How::Output) == 0);
-    assert!(rt; d.open(0, How::Output) == 41);
-    assert!(rt; d.open(1, How::Output) == 30);
-    assert!(rt; d.read(0, into) == 47);
-    assert!(rt; d.write(0, b"one ") == 0);
-    assert!(rt; d.close(0) == 0);
-    assert!(rt; d.open(1, How::Extend) == 0);
-    assert!(rt; d.write(1, b"tw") == 0);
-    assert!(rt; d.close(1) == 0);
-    assert!(rt; d.open(0, How::InOut) == 0);
-    assert!(rt; d.rewrite(0, b"two ") == 43);
-    assert!(rt; d.write(0, b"two ") == 48);
-    assert!(rt; &*into == b"????".as_slice());
-    assert!(rt; d.read(0, into) == 0);
-    assert!(rt; &*into == b"one ".as_slice());
-    assert!(rt; d.read(0, into) == 0);
-    assert!(rt; &*into == b"tw  ".as_slice());
-    assert!(rt; d.rewrite(0, b"2222") == 0);
-    assert!(rt; d.rewrite(0, b"2222") == 43);
-    assert!(rt; d.read(0, into) == 10);
-    assert!(rt; &*into == b"tw  ".as_slice());
-    assert!(rt; d.read(0, into) == 46);
-    assert!(rt; !d.close_open());
-    assert!(rt; d.open(1, How::Input) == 0);
-    assert!(rt; d.rewrite(1, b"2222") == 49);
-    assert!(rt; d.read(1, into) == 0);
-    assert!(rt; d.read(1, into) == 0);
-    assert!(rt; &*into == b"2222".as_slice());
+    check(&rt, &mut d, &STATUSES);
     assert!(rt; d.bench.left == 2);
     Ok(())
 }
 
-// What six calls come to, where the device fails in the one with that number.
+/// A file is written, and its record is put back.
+const CALLS: [Call; 6] = [
+    Call::Open(How::Output),
+    Call::Write(b"x"),
+    Call::Close,
+    Call::Open(How::InOut),
+    Call::Read,
+    Call::Rewrite(b"y"),
+];
+
+// What these calls come to, where the device fails in the one with that number; and whether a
+// device fails in closing, or how many are left.
 fn walk(alloc: Global, failing: u64) -> Result<[u8; 7], NoMemory> {
     let bench = bench_of(alloc, &[b"TAPE", b"DISK", b"LAST"], failing)?;
     let mut d = Desk::new(alloc, bench, &[b"A", b"TAPE:A"])?;
     let mut record = [b'?'; 1];
-    let into = record.as_mut_slice();
-    let made = d.open(0, How::Output);
-    let written = d.write(0, b"x");
-    let closed = d.close(0);
-    let opened = d.open(0, How::InOut);
-    let given = d.read(0, into);
-    let put = d.rewrite(0, b"y");
-    let failed = d.close_open();
-    let last = if failed { FAILED } else { left_of(&d) };
-    Ok([made, written, closed, opened, given, put, last])
+    let mut came = [0; 7];
+    for (status, call) in came.iter_mut().zip(CALLS.iter()) {
+        *status = d.call(0, *call, &mut record);
+    }
+    came[6] = if d.close_open() { FAILED } else { left_of(&d) };
+    Ok(came)
 }
 
 fn left_of(desk: &Desk) -> u8 {
@@ -274,19 +315,23 @@ fn a_failed_device_is_taken_off(rt: HostRuntime) -> Result<(), Fail> {
     Ok(())
 }
 
+const OTHERS: [Step; 8] = [
+    (0, Call::Open(How::Output), 0, b"????"),
+    (2, Call::Open(How::Output), 0, b"????"),
+    (1, Call::Open(How::Output), 0, b"????"),
+    (0, Call::Write(b"x"), FAILED, b"????"),
+    (1, Call::Write(b"x"), 48, b"????"),
+    (2, Call::Write(b"x"), 0, b"????"),
+    (0, Call::Open(How::Input), 35, b"????"),
+    (1, Call::Open(How::Output), 0, b"????"),
+];
+
 #[test]
 fn the_next_device_of_a_name_takes_over(rt: HostRuntime) -> Result<(), Fail> {
     let alloc = rt.alloc();
     let bench = bench_of(alloc, &[b"DISK", b"TAPE", b"DISK"], 3)?;
     let mut d = Desk::new(alloc, bench, &[b"A", b"B", b"TAPE:A"])?;
-    assert!(rt; d.open(0, How::Output) == 0);
-    assert!(rt; d.open(2, How::Output) == 0);
-    assert!(rt; d.open(1, How::Output) == 0);
-    assert!(rt; d.write(0, b"x") == FAILED);
-    assert!(rt; d.write(1, b"x") == 48);
-    assert!(rt; d.write(2, b"x") == 0);
-    assert!(rt; d.open(0, How::Input) == 35);
-    assert!(rt; d.open(1, How::Output) == 0);
+    check(&rt, &mut d, &OTHERS);
     assert!(rt; d.bench.left == 2);
     assert!(rt; d.is_at(0, b"TAPE", 0));
     assert!(rt; d.is_at(2, b"DISK", 1));

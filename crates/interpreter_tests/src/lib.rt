@@ -1,5 +1,5 @@
-//! Tests of runs: operations on files, the folder's device, plain programs, places by numbers, and
-//! whole sources; and of restructuring: that results are structured, and trails of faults.
+//! Tests of runs: operations on files, the folder's device, and plain programs; and of restructuring:
+//! that results are structured, and trails of faults.
 //!
 //! They are here, over the finished crates, since a crate with tests of its own is proved twice. A
 //! module names the part that it tests.
@@ -10,11 +10,7 @@ mod desk;
 #[cfg(test)]
 mod folder;
 #[cfg(test)]
-mod places;
-#[cfg(test)]
 mod plain;
-#[cfg(test)]
-mod sources;
 #[cfg(test)]
 mod structured;
 #[cfg(test)]

@@ -1,83 +1,59 @@
 //! Runs of plain programs, each for a number of steps.
 
-use cob_base::{Items, NoMemory, Text, Word};
-use cob_tree::{Control, FlowFault, Operand, Paragraph, Program, Sentence, Stmt};
+use cob_base::NoMemory;
+use cob_tree::{FlowFault, Program};
+use cobol_read::read;
 use meanings::plain::{Over, PlainState, begun, plain_step};
 use std::alloc::Global;
 use std::test::Fail;
 
-fn shown(alloc: Global, byte: u8) -> Result<Stmt, NoMemory> {
-    let mut text = Text::new(alloc);
-    text.add(&[byte])?;
-    let mut items = Items::new(alloc);
-    items.push(Operand::Text(text))?;
-    Ok(Stmt::Display {
-        items,
-        advance: false,
-    })
-}
+/// What comes before the paragraphs of a program.
+const HEAD: &str = "       IDENTIFICATION DIVISION.
+       PROGRAM-ID. P.
+       PROCEDURE DIVISION.
+       ";
 
-fn number(digit: u8) -> u32 {
-    u32::from(digit.saturating_sub(b'0'))
-}
+/// It falls through, and off its end.
+const FALLING: &str = "A. DISPLAY \"A\" NO ADVANCING.
+       B. DISPLAY \"B\" NO ADVANCING.
+";
 
-/// A letter is displayed, `>n` goes to a paragraph, `(nm` performs two and those between, `.`
-/// stops, and `,` goes on.
-fn statement(alloc: Global, what: &[u8]) -> Result<Option<Stmt>, NoMemory> {
-    Ok(match what {
-        [b'>', to, ..] => Some(Stmt::Go(number(*to))),
-        [b'(', entry, exit, ..] => Some(Stmt::Perform {
-            entry: number(*entry),
-            exit: number(*exit),
-            control: Control::Once,
-        }),
-        [b'.', ..] => Some(Stmt::StopRun),
-        [b',', ..] => Some(Stmt::Continue),
-        [byte, ..] if byte.is_ascii_uppercase() => Some(shown(alloc, *byte)?),
-        _ => None,
-    })
-}
+/// It performs a range of two paragraphs.
+const PERFORMING: &str = "A. PERFORM B THRU C DISPLAY \"A\" NO ADVANCING STOP RUN.
+       B. DISPLAY \"B\" NO ADVANCING.
+       C. DISPLAY \"C\" NO ADVANCING.
+";
 
-fn paragraph(alloc: Global, stmts: Items<Stmt>) -> Result<Paragraph, NoMemory> {
-    let mut sentences = Items::new(alloc);
-    sentences.push(Sentence { stmts })?;
-    Ok(Paragraph {
-        name: None,
-        section: None,
-        sentences,
-    })
-}
+/// It jumps out of a range.
+const LEAVING: &str = "A. PERFORM B DISPLAY \"A\" NO ADVANCING STOP RUN.
+       B. GO TO D.
+       C. DISPLAY \"B\" NO ADVANCING.
+       D. DISPLAY \"C\" NO ADVANCING CONTINUE GO TO E.
+       E. DISPLAY \"D\" NO ADVANCING.
+";
 
-/// Statements, each of which is three bytes of the text.
-fn statements(alloc: Global, text: &str) -> Result<Items<Stmt>, NoMemory> {
-    let mut stmts = Items::new(alloc);
-    for what in text.as_bytes().chunks(3) {
-        if let Some(stmt) = statement(alloc, what)? {
-            stmts.push(stmt)?;
-        }
-    }
-    Ok(stmts)
-}
+/// It jumps out of a range and back to its end.
+const RETURNING: &str = "A. PERFORM B THRU C DISPLAY \"A\" NO ADVANCING STOP RUN.
+       B. GO TO D.
+       C. DISPLAY \"B\" NO ADVANCING.
+       D. DISPLAY \"C\" NO ADVANCING GO TO C.
+";
 
-/// Paragraphs of one sentence, with a `/` between them.
-fn paragraphs(alloc: Global, text: &str) -> Result<Items<Paragraph>, NoMemory> {
-    let mut paragraphs = Items::new(alloc);
-    for part in text.split('/') {
-        let stmts = statements(alloc, part)?;
-        paragraphs.push(paragraph(alloc, stmts)?)?;
-    }
-    Ok(paragraphs)
-}
+/// A pending range ends where the innermost one doesn't.
+const OVERLAPPING: &str = "A. PERFORM B THRU C STOP RUN.
+       B. PERFORM D.
+       C. DISPLAY \"B\" NO ADVANCING.
+       D. GO TO C.
+";
 
-fn program(alloc: Global, text: &str) -> Result<Program, Fail> {
-    let name = Word::new(b"P").ok_or(NoMemory)?;
-    Ok(Program {
-        name,
-        files: Items::new(alloc),
-        entries: Items::new(alloc),
-        paragraphs: paragraphs(alloc, text)?,
-    })
-}
+/// A range is performed that ends where a pending one does.
+const REENTERING: &str = "A. PERFORM B STOP RUN.
+       B. PERFORM B.
+";
+
+/// It stops.
+const STOPPING: &str = "A. DISPLAY \"A\" NO ADVANCING STOP RUN DISPLAY \"B\" NO ADVANCING.
+";
 
 fn state_after(alloc: Global, program: &Program, steps: u32) -> Result<PlainState, NoMemory> {
     let mut state = begun(alloc, program)?;
@@ -87,11 +63,19 @@ fn state_after(alloc: Global, program: &Program, steps: u32) -> Result<PlainStat
     Ok(state)
 }
 
-fn after(alloc: Global, text: &str, steps: u32) -> Result<PlainState, Fail> {
-    let program = program(alloc, text)?;
-    let state = state_after(alloc, &program, steps);
-    drop(program);
-    Ok(state?)
+// The state of the program of these bytes, which is in the language.
+fn after(alloc: Global, bytes: &[u8], steps: u32) -> Result<PlainState, NoMemory> {
+    match read(alloc, bytes) {
+        Err(refusal) => {
+            drop(refusal);
+            Err(NoMemory)
+        }
+        Ok(program) => {
+            let state = state_after(alloc, &program, steps);
+            drop(program);
+            state
+        }
+    }
 }
 
 /// The state of a run: `-` where it goes on, `S` where it stopped, or the fault with its paragraph.
@@ -104,36 +88,40 @@ fn standing(state: &PlainState) -> (u8, u32) {
     }
 }
 
+// A program, steps, what is then displayed, the paragraph, how many returns are pending, and the state.
+const RUNS: [(&str, u32, &str, u32, usize, (u8, u32)); 18] = [
+    // it falls through, and stops after the last paragraph
+    (FALLING, 2, "A", 0, 0, (b'-', 0)),
+    (FALLING, 3, "A", 1, 0, (b'-', 0)),
+    (FALLING, 6, "AB", 1, 0, (b'S', 0)),
+    // a range of two paragraphs is performed, and left at its end
+    (PERFORMING, 1, "", 1, 1, (b'-', 0)),
+    (PERFORMING, 4, "B", 2, 1, (b'-', 0)),
+    (PERFORMING, 7, "BC", 0, 0, (b'-', 0)),
+    (PERFORMING, 9, "BCA", 0, 0, (b'S', 0)),
+    // a jump out of the range keeps its return pending
+    (LEAVING, 2, "", 3, 1, (b'-', 0)),
+    (LEAVING, 8, "CD", 4, 1, (b'S', 0)),
+    // which is taken at the range's end
+    (RETURNING, 4, "C", 2, 1, (b'-', 0)),
+    (RETURNING, 9, "CBA", 0, 0, (b'S', 0)),
+    // a pending range ends where the innermost one doesn't
+    (OVERLAPPING, 5, "B", 2, 2, (b'-', 0)),
+    (OVERLAPPING, 6, "B", 2, 2, (b'O', 2)),
+    // a range is performed that ends where a pending one does
+    (REENTERING, 1, "", 1, 1, (b'-', 0)),
+    (REENTERING, 2, "", 1, 1, (b'R', 1)),
+    // what is over stays
+    (REENTERING, 9, "", 1, 1, (b'R', 1)),
+    (OVERLAPPING, 9, "B", 2, 2, (b'O', 2)),
+    (STOPPING, 9, "A", 0, 0, (b'S', 0)),
+];
+
 #[test]
 fn runs_as_said(rt: HostRuntime) -> Result<(), Fail> {
-    for (text, steps, shown, paragraph, pending, over) in [
-        // it falls through, and stops after the last paragraph
-        ("A  /B  ", 2, "A", 0, 0, (b'-', 0)),
-        ("A  /B  ", 3, "A", 1, 0, (b'-', 0)),
-        ("A  /B  ", 6, "AB", 1, 0, (b'S', 0)),
-        // a range of two paragraphs is performed, and left at its end
-        ("(12A  .  /B  /C  ", 1, "", 1, 1, (b'-', 0)),
-        ("(12A  .  /B  /C  ", 4, "B", 2, 1, (b'-', 0)),
-        ("(12A  .  /B  /C  ", 7, "BC", 0, 0, (b'-', 0)),
-        ("(12A  .  /B  /C  ", 9, "BCA", 0, 0, (b'S', 0)),
-        // a jump out of the range keeps its return pending
-        ("(11A  .  />3 /B  /C  ,  >4 /D  ", 2, "", 3, 1, (b'-', 0)),
-        ("(11A  .  />3 /B  /C  ,  >4 /D  ", 8, "CD", 4, 1, (b'S', 0)),
-        // which is taken at the range's end
-        ("(12A  .  />3 /B  /C  >2 ", 4, "C", 2, 1, (b'-', 0)),
-        ("(12A  .  />3 /B  /C  >2 ", 9, "CBA", 0, 0, (b'S', 0)),
-        // a pending range ends where the innermost one doesn't
-        ("(12.  /(33/B  />2 ", 5, "B", 2, 2, (b'-', 0)),
-        ("(12.  /(33/B  />2 ", 6, "B", 2, 2, (b'O', 2)),
-        // a range is performed that ends where a pending one does
-        ("(11.  /(11", 1, "", 1, 1, (b'-', 0)),
-        ("(11.  /(11", 2, "", 1, 1, (b'R', 1)),
-        // what is over stays
-        ("(11.  /(11", 9, "", 1, 1, (b'R', 1)),
-        ("(12.  /(33/B  />2 ", 9, "B", 2, 2, (b'O', 2)),
-        ("A  .  B  ", 9, "A", 0, 0, (b'S', 0)),
-    ] {
-        let state = after(rt.alloc(), text, steps)?;
+    for (text, steps, shown, paragraph, pending, over) in RUNS {
+        let source = format!(in rt.alloc(); "{HEAD}{text}")?;
+        let state = after(rt.alloc(), source.as_bytes(), steps)?;
         assert_eq!(rt; state.shown.as_slice(), shown.as_bytes());
         assert_eq!(rt;
             (state.paragraph, state.pending.len()),

@@ -1,6 +1,4 @@
--- Each rule on trees keeps arms.
+-- All rules keep arms.
 pub mod Rules
--- So do all rules on graphs.
-pub mod Graphs
 -- And programs that are split nest within the limit.
 pub mod Split

@@ -1,4 +1,2 @@
--- Trees that are built have arms.
-pub mod Built
--- So have graphs.
+-- Graphs that a program is lowered to have arms.
 pub mod Graphs

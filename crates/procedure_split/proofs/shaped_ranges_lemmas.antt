@@ -6,5 +6,7 @@ pub mod Keeping
 pub mod Planning
 -- numbering counters leaves graphs as large as they are
 pub mod NumberedSizes
+-- within the limit graphs are small
+pub mod SmallGraphs
 -- graphs of ranges, one after the other
 pub mod GraphRows

@@ -1,8 +1,8 @@
 //! Programs full of jumps, one for each number, to try restructuring on.
 //!
 //! `generate` gives exactly the program of `specs/Generated`, which defines it part by part: the
-//! sequence of numbers, the names and the jumps. No law is about what such a program shows when it
-//! runs.
+//! sequence of numbers, the names and the jumps. `laws` has that no flow path of one comes to a
+//! fault; no law is about what such a program shows when it runs.
 #![tactic(auto)]
 
 ghost use Rattle.std.specs.Prelude.{◌<◌, ◌≤◌};

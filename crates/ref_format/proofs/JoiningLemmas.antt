@@ -1,8 +1,7 @@
 -- The literal at a text's end.
-use Rattle.std.proofs.Common.{◌≡◌, ℕ, zero, suc, ◌+◌, ◌<◌, ◌==◌, ◌||◌, Bool, true, false, cond, List, [], ◌∷◌, ◌++◌, length, take, drop, set, get_or, replicate, arith, append_assoc, reverse, Option, None, Some, Result, Ok, Err, sym, ap, refl, ◌∙◌, subst}
+use Rattle.std.proofs.Common.{◌≡◌, ℕ, ◌==◌, ◌||◌, Bool, true, false, cond, List, [], ◌∷◌, ◌++◌, reverse, Option, None, Some, Result, Ok, Err, sym, ap, refl, ◌∙◌, subst}
 use Rattle.std.specs.List.{list_any}
-use Rattle.std.proofs.lemmas.List.{reverse-append, reverse-reverse, map-append, take_more, take_more_set, drop-set-lt}
-use Rattle.std.proofs.Math.Seq.{drop-drop}
+use Rattle.std.proofs.lemmas.List.{reverse-append, reverse-reverse}
 use Rattle.std.proofs.lemmas.Bool.Decides.{Decides-eqb}
 use Rattle.ref_format.specs.declared.placed.Placed.{Placed}
 use Rattle.ref_format.specs.declared.fault.FormatFault.{FormatFault}
@@ -92,25 +91,3 @@ some_of_err (Some found) value error e = (found, refl, cc)
 
 pub err_told : {A : Type 0} (meant : Result A FormatError) (fault : FormatFault) (error : FormatError) → meant ≡ Err (Fault fault) → error ≡ Fault fault → meant ≡ Err error
 err_told meant fault error is e = subst (λ f. meant ≡ Err f) (sym e) is
-
--- ---- bytes that are put over blanks
-
-placed_more : (line at : ℕ) (bytes : List ℕ) → at < length bytes → placed line (take (at + 1) bytes) ≡ placed line (take at bytes) ++ record { byte = get_or bytes at 0; line = line } ∷ []
-placed_more line at bytes h = ap (placed line) (take_more bytes at 0 h) ∙ map-append (λ b. record { byte = b; line = line }) (take at bytes) (get_or bytes at 0 ∷ [])
-
-pub put_done : (text old : List Placed) (n at line : ℕ) (bytes : List ℕ) (p : Placed) → n < length text → at < length bytes → take n text ≡ old ++ placed line (take at bytes) → p ≡ record { byte = get_or bytes at 0; line = line } → take (n + 1) (set text n p) ≡ old ++ placed line (take (at + 1) bytes)
-put_done text old n at line bytes p room h done is =
-    take_more_set text n p room
-    ∙ ap (λ xs. xs ++ p ∷ []) done
-    ∙ append_assoc old (placed line (take at bytes)) (p ∷ [])
-    ∙ ap (λ q. old ++ (placed line (take at bytes) ++ q ∷ [])) is
-    ∙ ap (λ xs. old ++ xs) (sym (placed_more line at bytes h))
-
-pub blank_here : (text : List Placed) (n k : ℕ) (blank d : Placed) → drop n text ≡ replicate (suc k) blank → get_or text n d ≡ blank
-blank_here [] zero k blank d e = absurd cc
-blank_here [] (suc n) k blank d e = absurd cc
-blank_here (p ∷ text) zero k blank d e = cc
-blank_here (p ∷ text) (suc n) k blank d e = blank_here text n k blank d e
-
-pub blanks_left : (text : List Placed) (n k : ℕ) (p blank : Placed) → drop n text ≡ replicate (suc k) blank → drop (n + 1) (set text n p) ≡ replicate k blank
-blanks_left text n k p blank e = drop-set-lt (n + 1) text n p (omega arith) ∙ sym (drop-drop 1 n text) ∙ ap (drop 1) e

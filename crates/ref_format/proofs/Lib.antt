@@ -1,6 +1,8 @@
 -- Columns and lines.
 pub mod ColumnLemmas
 pub mod LineLemmas
+-- Bytes and runs of lines as a text.
+pub mod TextLemmas
 -- The literal at a text's end, and the text that is still to come.
 pub mod JoiningLemmas
 pub mod UnfoldLemmas

@@ -44,6 +44,15 @@ abbrev pub unspaced_front : List Placed → List Placed
 unspaced_front [] = []
 unspaced_front (p ∷ text) = if p.byte == space then unspaced_front text else p ∷ text
 
+-- a space is in front
+abbrev pub begins_in_space : List Placed → Bool
+begins_in_space [] = false
+begins_in_space (p ∷ text) = p.byte == space
+
+-- a space is at the end
+abbrev pub ends_in_space : List Placed → Bool
+ends_in_space text = begins_in_space (reverse text)
+
 -- less the spaces at the end
 abbrev pub unspaced_end : List Placed → List Placed
 unspaced_end text = reverse (unspaced_front (reverse text))
@@ -124,6 +133,6 @@ program_text bytes = joined None [] (kept_lines bytes)
 -- the literal is the one that is open at the text's end, and the text begins with a kept line
 pub record IsSound (joining : Joining) : Type 0 where
   -- the literal is the one that is open at the end
-  pub open_at_end : joining.literal ≡ literal_at_end joining.text.items
+  pub open_at_end : joining.literal ≡ literal_at_end joining.text
   -- without a kept line there is no text
-  pub begins : joining.last ≡ None → joining.text.items ≡ []
+  pub begins : joining.last ≡ None → joining.text ≡ []

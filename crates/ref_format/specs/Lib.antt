@@ -4,6 +4,7 @@ pub mod Column
 pub mod Entry
 pub mod Line
 -- Bytes with their lines, and the kept lines as one text: `program_text`.
+pub mod LineRuns
 pub mod Placed
 pub mod Joining
 -- Lines as they are written, without continuations and with them.

@@ -5,7 +5,7 @@ ghost use Rattle.std.specs.Prelude.{◌≡◌, None, Some, OnOk, ◌++◌, []};
 
 use crate::column::{behind_spaces, blank, controls};
 use crate::fault::{FormatError, FormatFault};
-use crate::placed::Placed;
+use crate::program_text::ProgramText;
 use cob_base::NoMemory;
 use std::alloc::Global;
 
@@ -81,7 +81,7 @@ fn has_mark(bytes: &[u8]) -> bool
 /// The text of the lines so far.
 #[derive(Drop)]
 pub struct Joining {
-    pub text: Vec<Placed>,
+    pub text: ProgramText,
     /// The line that was kept last.
     pub last: Option<u32>,
     pub literal: Literal,
@@ -92,19 +92,19 @@ impl Joining {
     ghost use Rattle.cob_base.specs.Answers.{Answers};
     ghost use Rattle.ref_format.specs.Line.{line_of};
     ghost use Rattle.ref_format.specs.Placed.{placed};
-    ghost use Rattle.ref_format.specs.Joining.{IsSound, behind, unspaced_end, line_end, trimmed, continuing};
+    ghost use Rattle.ref_format.specs.Joining.{IsSound, behind, line_end, trimmed, continuing};
     ghost use Rattle.ref_format.specs.Joining.{with_line, fault_of, joined_or, is_bad_continuation};
     ghost use Rattle.ref_format.specs.declared.fault.FormatError.TheVariants.{NoMemory as Memory};
     ghost use Rattle.ref_format.specs.declared.joining.Literal.TheVariants.{Closed};
 
     /// No line yet.
     pub fn new(alloc: Global) -> Joining
-        ensures text { result.text.items ≡ [] }
+        ensures text { result.text ≡ [] }
         ensures last { result.last ≡ None }
         ensures literal { result.literal ≡ Closed }
     {
         Joining {
-            text: Vec::new(alloc),
+            text: ProgramText::new(alloc),
             last: None,
             literal: Literal::Closed,
         }
@@ -116,7 +116,7 @@ impl Joining {
         ensures sound { OnOk result (IsSound self.new) }
         ensures last { OnOk result (self.new.last ≡ Some number) }
         ensures text { OnOk result
-            (self.new.text.items ≡ with_line self.old.last self.old.text.items (line_of number card.now)) }
+            (self.new.text ≡ with_line self.old.last self.old.text (line_of number card.now)) }
         ensures fault { let line = line_of number card.now in
             let fault = fault_of self.old.last self.old.literal line in
             Answers Memory (joined_or fault (Ok tt)) result }
@@ -161,8 +161,8 @@ impl Joining {
     /// Takes a continuation line.
     fn go_on(&mut self, number: u32, card: &[u8; 72]) -> Result<(), NoMemory>
         ensures text { OnOk result
-            (self.new.text.items
-            ≡ trimmed self.old.literal self.old.text.items
+            (self.new.text
+            ≡ trimmed self.old.literal self.old.text
             ++ placed number (continuing self.old.literal card.now)) }
         ensures literal { OnOk result
             (self.new.literal ≡ behind self.old.literal (continuing self.old.literal card.now)) }
@@ -170,7 +170,7 @@ impl Joining {
         let rest = behind_spaces(&card[11..]);
         match (self.literal, rest) {
             (Literal::Closed, _) => {
-                self.trim();
+                self.text.trim();
                 self.put(number, rest)
             }
             (_, [_, more @ ..]) => self.put(number, more),
@@ -180,50 +180,30 @@ impl Joining {
 
     /// Ends the line that was kept last.
     fn end_line(&mut self) -> Result<(), NoMemory>
-        ensures { OnOk result (self.new.text.items ≡ self.old.text.items ++ line_end self.old.last) }
+        ensures { OnOk result (self.new.text ≡ self.old.text ++ line_end self.old.last) }
     {
         if let Some(line) = self.last {
-            self.text.push(Placed { byte: b'\n', line })?;
+            self.text.add(line, b"\n")?;
         }
         Ok(())
     }
 
     /// Adds the bytes of a line, before which no literal is open.
     fn put_line(&mut self, line: u32, bytes: &[u8]) -> Result<(), NoMemory>
-        ensures text { OnOk result (self.new.text.items ≡ self.old.text.items ++ placed line bytes.now) }
+        ensures text { OnOk result (self.new.text ≡ self.old.text ++ placed line bytes.now) }
         ensures literal { OnOk result (self.new.literal ≡ behind Closed bytes.now) }
     {
-        let before = self.text.len();
-        self.text
-            .resize(before + bytes.len(), Placed { byte: b' ', line })?;
-        for (at, byte) in bytes.iter().enumerate() {
-            self.text[before + at].byte = *byte;
-        }
+        self.text.add(line, bytes)?;
         self.literal = Literal::in_line(bytes);
         Ok(())
     }
 
     fn put(&mut self, line: u32, bytes: &[u8]) -> Result<(), NoMemory>
-        ensures text { OnOk result (self.new.text.items ≡ self.old.text.items ++ placed line bytes.now) }
+        ensures text { OnOk result (self.new.text ≡ self.old.text ++ placed line bytes.now) }
         ensures literal { OnOk result (self.new.literal ≡ behind self.old.literal bytes.now) }
     {
-        for byte in bytes {
-            self.text.push(Placed { byte: *byte, line })?;
-        }
+        self.text.add(line, bytes)?;
         self.literal = self.literal.behind_all(bytes);
         Ok(())
-    }
-
-    /// Drops the spaces at the text's end.
-    fn trim(&mut self)
-        ensures text { self.new.text.items ≡ unspaced_end self.old.text.items }
-        ensures literal { self.new.literal ≡ self.old.literal }
-    {
-        while let Some(last) = self.text.as_slice().last() {
-            if last.byte != b' ' {
-                return;
-            }
-            let _ = self.text.pop();
-        }
     }
 }

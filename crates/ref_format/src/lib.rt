@@ -13,27 +13,30 @@ mod fault;
 mod joining;
 mod laws;
 mod line;
+mod line_runs;
 mod placed;
+mod program_text;
 
 ghost use Rattle.std.specs.Prelude.{◌<◌, ◌^◌, length};
 ghost use Rattle.cob_base.specs.Answers.{Answers};
 ghost use Rattle.ref_format.specs.Joining.{program_text};
 ghost use Rattle.ref_format.specs.declared.fault.FormatError.TheVariants.{NoMemory as Memory};
 
-use cob_base::Items;
 use column::card_of_line;
 use entry::Entries;
 pub use fault::{FormatError, FormatFault};
 use joining::Joining;
 pub use laws::{lines_rise, plain_lines_are_read, rows_are_read, text_stands_on_kept_lines};
 use line::first_line;
+pub use line_runs::LinesLeft;
 pub use placed::Placed;
+pub use program_text::ProgramText;
 use std::alloc::Global;
 
 /// The program text of a source in the reference format, each byte with its line, or the fault of
 /// the first line that isn't in the format. On one line a wrong indicator counts before a control
 /// character, and that before a wrong continuation. The source must have fewer than 2^31 bytes.
-pub fn unfold(alloc: Global, bytes: &[u8]) -> Result<Items<Placed>, FormatError>
+pub fn unfold(alloc: Global, bytes: &[u8]) -> Result<ProgramText, FormatError>
     requires { length bytes.now < 2 ^ 31 }
     ensures { Answers Memory (program_text bytes.now) result }
 {
@@ -59,5 +62,5 @@ pub fn unfold(alloc: Global, bytes: &[u8]) -> Result<Items<Placed>, FormatError>
         last: _,
         literal: _,
     } = joining;
-    Ok(Items::from_vec(text))
+    Ok(text)
 }

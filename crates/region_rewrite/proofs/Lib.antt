@@ -8,6 +8,8 @@ pub mod SetRows
 pub mod ReduceRows
 -- the steps of the rules
 pub mod StepRows
+-- how many items the steps add
+pub mod RoomRows
 -- the one node that is left
 pub mod ShapeRows
 -- Exits: a node with a jump to itself, whose other live leaves have several targets, becomes a

@@ -1,4 +1,6 @@
 -- A graph while the rules reduce it.
+use Rattle.std.specs.Prelude.{◌<◌, ◌^◌}
+use Rattle.std.specs.Vec.{vec_len}
 use Rattle.control_flow_theory.specs.semantics.Graph.{Label}
 use Rattle.control_flow_theory.specs.graph_rules.Reduced.{Graph}
 use Rattle.graph_rewriting.specs.Helds.{seen_work}
@@ -8,6 +10,10 @@ use Rattle.region_rewrite.specs.declared.reducing.Reducing.{Reducing}
 -- the graph as the theory has it
 abbrev pub graph_in : Reducing → Graph
 graph_in state = seen_work state.work
+
+-- 32 bits number one added item more
+abbrev pub HasRoom : Reducing → Type 0
+HasRoom state = vec_len state.work.added < 2 ^ 32
 
 -- all trees are joined, and each rule applies only on labels on which it is to be tried
 abbrev pub StateHolds : Reducing → Type 0

@@ -1,5 +1,5 @@
 -- What becomes of a graph of which one node is left.
-use Rattle.std.specs.Prelude.{ℕ, ◌≡◌, ◌+◌, ◌<◌, ◌≤◌, true, List, [], ◌∷◌, map, Result, Ok, Err}
+use Rattle.std.specs.Prelude.{ℕ, ◌≡◌, ◌+◌, ◌<◌, ◌≤◌, ◌^◌, true, List, [], ◌∷◌, length, map, Result, Ok, Err}
 use Rattle.cob_base.specs.Limit.{max_nesting, past}
 use Rattle.cob_base.specs.declared.limit.Limit.{Limit}
 use Rattle.cob_base.specs.declared.limit.LimitKind.TheVariants.{Nesting}
@@ -7,11 +7,16 @@ use Rattle.cob_tree.specs.declared.fault.SplitFault.{SplitFault}
 use Rattle.cob_tree.specs.declared.fault.SplitFault.TheVariants as fault
 use Rattle.control_flow_theory.specs.language.Language.{none}
 use Rattle.control_flow_theory.specs.semantics.Graph.{Tree, tree, Dead, body_of}
-use Rattle.control_flow_theory.specs.graph_rules.Reduced.{Node, Graph}
+use Rattle.control_flow_theory.specs.graph_rules.Reduced.{Node, Graph, size}
 use Rattle.branch_tree.specs.Graph.{seen_added}
 use Rattle.branch_tree.specs.Tree.{seen_body, seen_end}
 use Rattle.region_rewrite.specs.written_nesting.Nesting.{nesting}
 use Rattle.region_rewrite.specs.declared.shaping.Shaped.{Shaped}
+
+-- 32 bits number its nodes, and its added items with those that the rules add
+pub record IsSmall (graph : Graph) : Type 0 where
+  pub nodes : size graph.nodes ≤ 2 ^ 28
+  pub added : length graph.added ≤ 2 ^ 28
 
 -- the limit of the result's nesting, passed by one
 abbrev pub nesting_passed : Limit

@@ -1,6 +1,6 @@
 //! Makes all joins of a graph.
 
-ghost use Rattle.std.specs.Prelude.{◌≡◌, ◌*◌, IfOk, OnOk};
+ghost use Rattle.std.specs.Prelude.{◌≡◌, ◌<◌, ◌*◌, ◌^◌, length, OnOk};
 ghost use Rattle.control_flow_theory.specs.graph_rules.Reduced.{each_tree, join_graph, size};
 ghost use Rattle.control_flow_theory.specs.graph_rules.Shapes.{joined};
 ghost use Rattle.branch_tree.specs.Graph.{seen_graph, seen_nodes};
@@ -25,13 +25,11 @@ pub fn join_graph(graph: &mut Graph) -> Result<(), NoMemory>
     join_nodes(graph.nodes.as_mut_slice())
 }
 
-/// As many steps as are enough, three for each node. A graph with 2^32 - 1 nodes is out of memory.
-pub fn enough_steps(graph: &Graph) -> Result<usize, NoMemory>
-    ensures { IfOk result (λ most. most ≡ 3 * size (seen_nodes graph.now.nodes.items)) }
+/// As many steps as are enough, three for each node.
+pub fn enough_steps(graph: &Graph) -> usize
+    requires { length graph.now.nodes.items < 2 ^ 32 }
+    ensures { result ≡ 3 * size (seen_nodes graph.now.nodes.items) }
 {
     let nodes = graph.nodes.len();
-    if nodes >= u32::MAX as usize {
-        return Err(NoMemory);
-    }
-    Ok(3 * nodes)
+    3 * nodes
 }

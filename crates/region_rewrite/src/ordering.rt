@@ -1,6 +1,7 @@
 //! All rules in their order.
 
-ghost use Rattle.std.specs.Prelude.{◌≡◌, ◌*◌, true, IfOk, OnOk};
+ghost use Rattle.std.specs.Prelude.{◌≡◌, ◌<◌, ◌+◌, ◌*◌, ◌^◌, suc, true, length, IfOk, OnOk};
+ghost use Rattle.std.specs.Vec.{vec_len};
 ghost use Rattle.std.specs.BTreeSet.{contains};
 ghost use Rattle.std.specs.Ordering.{nat_cmp};
 ghost use Rattle.control_flow_theory.specs.semantics.Graph.{Label};
@@ -11,6 +12,7 @@ ghost use Rattle.branch_tree.specs.Graph.{seen_graph, seen_nodes};
 ghost use Rattle.graph_rewriting.specs.Helds.{seen_work};
 ghost use Rattle.region_rewrite.specs.Candidates.{Fixed};
 ghost use Rattle.region_rewrite.specs.Reducing.{StateHolds, graph_in};
+ghost use Rattle.region_rewrite.specs.Shaping.{IsSmall};
 
 use crate::exiting::all_steps;
 use crate::joining::{enough_steps, join_graph};
@@ -61,17 +63,13 @@ fn begun(alloc: Global, graph: Graph) -> Result<Reducing, NoMemory>
 
 /// The dispatch, where several nodes are left.
 fn dispatch_rest(alloc: Global, work: &mut Work) -> Result<(), NoMemory>
+    requires numbered { suc (length work.old.nodes) < 2 ^ 32 }
+    requires room { vec_len work.old.added < 2 ^ 32 }
     ensures { OnOk result (seen_work work.new ≡ dispatch_rest (seen_work work.old)) }
 {
     let nodes = work.len();
     if nodes < 2 {
         return Ok(());
-    }
-    if nodes >= u32::MAX as usize - 1 {
-        return Err(NoMemory);
-    }
-    if work.added_len() >= u32::MAX as usize {
-        return Err(NoMemory);
     }
     dispatch(alloc, work)
 }
@@ -79,7 +77,9 @@ fn dispatch_rest(alloc: Global, work: &mut Work) -> Result<(), NoMemory>
 /// Makes steps of Loop and Inline as long as one applies, at most this many, then at most as many
 /// of these and of Exits, and the dispatch. Without memory some are done.
 fn reduce(alloc: Global, state: &mut Reducing, most: usize) -> Result<(), NoMemory>
-    requires { StateHolds state.old }
+    requires holds { StateHolds state.old }
+    requires numbered { suc (length state.old.work.nodes) < 2 ^ 32 }
+    requires room { vec_len state.old.work.added + 2 * most < 2 ^ 32 }
     ensures { OnOk result (graph_in state.new
         ≡ dispatch_rest (reduced_by_all most (reduced most (graph_in state.old)))) }
 {
@@ -103,18 +103,20 @@ fn ended(alloc: Global, state: Reducing) -> Result<Graph, NoMemory>
 
 /// Makes all joins, and answers how many steps of the other rules are enough.
 fn prepared(graph: &mut Graph) -> Result<usize, NoMemory>
+    requires { length graph.old.nodes.items < 2 ^ 32 }
     ensures graph { OnOk result (seen_graph graph.new ≡ join_graph (seen_graph graph.old)) }
     ensures most { IfOk result (λ most. most ≡ 3 * size (seen_graph graph.old).nodes) }
 {
-    let most = enough_steps(graph)?;
+    let most = enough_steps(graph);
     join_graph(graph)?;
     Ok(most)
 }
 
 /// Closes a graph by all rules in their order: one node is left, which doesn't jump. Without memory
-/// the graph is lost; one with 2^32 - 2 nodes, or as many added items, is out of memory.
+/// the graph is lost.
 pub fn close(alloc: Global, graph: Graph) -> Result<Graph, NoMemory>
-    requires { IsClosed (seen_graph graph) }
+    requires closed { IsClosed (seen_graph graph) }
+    requires small { IsSmall (seen_graph graph) }
     ensures { IfOk result (λ new. seen_graph new ≡ closed_graph (seen_graph graph)) }
 {
     let mut graph = graph;

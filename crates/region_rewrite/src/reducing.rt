@@ -1,12 +1,13 @@
 //! Loop and Inline, on the lowest label where they apply, Loop first.
 
-ghost use Rattle.std.specs.Prelude.{◌≡◌, true, false, OnOk};
+ghost use Rattle.std.specs.Prelude.{◌≡◌, ◌+◌, ◌≤◌, ◌^◌, true, false, OnOk};
+ghost use Rattle.std.specs.Vec.{vec_len};
 ghost use Rattle.control_flow_theory.specs.semantics.Graph.{Label};
 ghost use Rattle.control_flow_theory.specs.graph_rules.Reduced.{close_graph, has_node, inline_graph, join_graph, reduced, rule_step};
 ghost use Rattle.loop_rules.specs.Nodes.{may_loop};
 ghost use Rattle.tree_rules.specs.Inlining.{may_inline};
 ghost use Rattle.region_rewrite.specs.Candidates.{Enters};
-ghost use Rattle.region_rewrite.specs.Reducing.{StateHolds, StateHoldsBut, graph_in};
+ghost use Rattle.region_rewrite.specs.Reducing.{HasRoom, StateHolds, StateHoldsBut, graph_in};
 ghost use Rattle.region_rewrite.specs.Steps.{LoopSteps, Steps};
 
 use crate::candidates::{Rule, next, put_node_targets};
@@ -54,16 +55,14 @@ pub fn settle(alloc: Global, state: &mut Reducing, label: Label) -> Result<(), N
     enter(state, label)
 }
 
-/// Loop on a label where it applies. A graph with 2^32 - 1 added items is out of memory.
+/// Loop on a label where it applies.
 fn loop_on(alloc: Global, state: &mut Reducing, label: Label) -> Result<(), NoMemory>
     requires applies { may_loop (graph_in state.old) label ≡ true }
     requires but { StateHoldsBut label state.old }
+    requires room { HasRoom state.old }
     ensures graph { OnOk result (graph_in state.new ≡ close_graph label (graph_in state.old)) }
     ensures holds { OnOk result (StateHolds state.new) }
 {
-    if state.work.added_len() >= u32::MAX as usize {
-        return Err(NoMemory);
-    }
     state.work.sound();
     put_node_targets(&state.work, label, &mut state.inlines)?;
     close_loop(alloc, &mut state.work, label)?;
@@ -87,7 +86,8 @@ fn inline_on(alloc: Global, state: &mut Reducing, label: Label) -> Result<(), No
 
 /// Loop on the lowest label where it applies.
 fn loop_lowest(alloc: Global, state: &mut Reducing) -> Result<bool, NoMemory>
-    requires { StateHolds state.old }
+    requires holds { StateHolds state.old }
+    requires room { HasRoom state.old }
     ensures holds { OnOk result (StateHolds state.new) }
     ensures step { LoopSteps result (graph_in state.old) (graph_in state.new) }
 {
@@ -121,7 +121,8 @@ fn inline_lowest(alloc: Global, state: &mut Reducing) -> Result<bool, NoMemory>
 
 /// One step of Loop or Inline, where one applies.
 pub fn step(alloc: Global, state: &mut Reducing) -> Result<bool, NoMemory>
-    requires { StateHolds state.old }
+    requires holds { StateHolds state.old }
+    requires room { HasRoom state.old }
     ensures holds { OnOk result (StateHolds state.new) }
     ensures step { Steps result (rule_step (graph_in state.old)) (graph_in state.old)
         (graph_in state.new) }
@@ -135,7 +136,8 @@ pub fn step(alloc: Global, state: &mut Reducing) -> Result<bool, NoMemory>
 /// Makes steps of Loop and Inline as long as one applies, at most this many. Without memory some
 /// are done.
 pub fn steps(alloc: Global, state: &mut Reducing, most: usize) -> Result<(), NoMemory>
-    requires { StateHolds state.old }
+    requires holds { StateHolds state.old }
+    requires room { vec_len state.old.work.added + most ≤ 2 ^ 32 }
     ensures holds { OnOk result (StateHolds state.new) }
     ensures graph { OnOk result (graph_in state.new ≡ reduced most (graph_in state.old)) }
 {

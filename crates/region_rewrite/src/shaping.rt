@@ -5,7 +5,7 @@ ghost use Rattle.control_flow_theory.specs.structuring.Closes.{IsClosed, closed_
 ghost use Rattle.control_flow_theory.specs.structuring.Laws.{PlainEnd};
 ghost use Rattle.branch_tree.specs.Graph.{seen_graph};
 ghost use Rattle.branch_tree.specs.Tree.{seen_end};
-ghost use Rattle.region_rewrite.specs.Shaping.{Shapes, nesting_passed};
+ghost use Rattle.region_rewrite.specs.Shaping.{IsSmall, Shapes, nesting_passed};
 
 use crate::ordering::close;
 use crate::written_nesting::body_nesting;
@@ -56,10 +56,10 @@ fn one_node(graph: Graph) -> Result<Shaped, SplitFault>
 }
 
 /// Shapes a graph by all rules in their order. The errors are Limit, exactly where the result nests
-/// deeper than 500 levels, and out of memory; the latter also where the graph has 2^32 - 1 nodes or
-/// added items, or 2^32 - 2 nodes come to the dispatch.
+/// deeper than 500 levels, and out of memory.
 pub fn shape(alloc: Global, graph: Graph) -> Result<Shaped, SplitFault>
-    requires { IsClosed (seen_graph graph) }
+    requires closed { IsClosed (seen_graph graph) }
+    requires small { IsSmall (seen_graph graph) }
     ensures shaped { Shapes result (closed_graph (seen_graph graph)) }
     ensures end { IfOk result (λ shaped. PlainEnd (seen_end shaped.end)) }
 {

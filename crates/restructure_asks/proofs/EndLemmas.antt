@@ -25,7 +25,7 @@ use Rattle.restructure_asks.specs.declared.status.Status.{Status}
 use Rattle.restructure_asks.specs.declared.status.Status.TheVariants as status
 use Rattle.restructure_asks.specs.Ask.{reads}
 use Rattle.restructure_asks.specs.Refusal.{status_of, line_of}
-use Rattle.restructure_asks.specs.Answer.{Answer, IsUnasked, IsRefusalOf, IsOfRestructure, IsOfReport, IsOfCheck, IsDue, IsMadeFor, IsAnswered}
+use Rattle.restructure_asks.specs.Answer.{Answer, IsUnasked, IsRefusalOf, IsOfRestructure, IsOfReport, IsOfCheck, IsOfTrial, IsDue, IsMadeFor, IsAnswered}
 use Rattle.restructure_asks.specs.Reading.{Tells, left_after, IsRead, IsReadWithin, IsReadFault}
 use Rattle.cob_base.specs.giving.Giving.{Takes, Keeps}
 use Rattle.restructure_asks.specs.Writing.{Notes, NotesNoMemory, Writes, IsGiven}
@@ -195,6 +195,24 @@ refusal-never bytes (refusal.Differ number) never h = h
 refusal-never bytes refusal.WriteFault never h = h
 refusal-never bytes refusal.NoMemory never h = h
 
+trial-never : (n : ℕ) (r : Refusal) → IsNeverDue r → IsOfTrial n (Err r) → ⊥
+trial-never n refusal.Usage never h = h
+trial-never n (refusal.Refused (refused.NotSubset why)) never h = h
+trial-never n (refusal.Refused (refused.Flow program trail)) never h = h
+trial-never n (refusal.Refused (refused.Limit limit)) never h = (let k : ⊥ = cc in k)
+trial-never n (refusal.Refused refused.NoMemory) never h = h
+trial-never n (refusal.Device name) never h = h
+trial-never n (refusal.Fault program fault) never h = h
+trial-never n (refusal.Abend abend) never h = h
+trial-never n (refusal.Budget steps) never h = h
+trial-never n refusal.ReadFault never h = h
+trial-never n refusal.NoSecond never h = h
+trial-never n (refusal.Second why) never h = h
+trial-never n (refusal.SecondDevice name) never h = h
+trial-never n (refusal.Differ number) never h = h
+trial-never n refusal.WriteFault never h = h
+trial-never n refusal.NoMemory never h = h
+
 never-due : (ask : Option Ask) (bytes : List ℕ) (r : Refusal) → IsNeverDue r → IsDue ask bytes (Err r) → ⊥
 never-due None bytes r never h = unasked-never r never h
 never-due (Some Restructure) bytes r never h = refusal-never bytes r never h
@@ -203,7 +221,7 @@ never-due (Some Check) bytes r never h = refusal-never bytes r never h
 never-due (Some (Run steps)) bytes r never h = h
 never-due (Some (Compare steps)) bytes r never h = h
 never-due (Some (Generate n)) bytes r never h = h
-never-due (Some (Trial n)) bytes r never h = refusal-never _ r never h
+never-due (Some (Trial n)) bytes r never h = trial-never n r never h
 
 module _ (ask : Option Ask) (source : SourceCall) (out notes : SinkCall) where
   abbrev EndsAs : Status → Type 0

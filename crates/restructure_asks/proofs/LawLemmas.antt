@@ -23,10 +23,10 @@ use Rattle.restructure_asks.specs.declared.status.Status.TheVariants as status
 use Rattle.restructure_asks.specs.Status.{IsOneOf}
 use Rattle.restructure_asks.specs.Refusal.{refused_status, status_of}
 use Rattle.restructure_asks.specs.Texts.{text_alone, with_report}
-use Rattle.restructure_asks.specs.Answer.{Answer, IsUnasked, IsRefusalOf, IsOfRestructure, IsOfReport, IsOfCheck, IsOfGenerate, IsDue, IsAnswered, program_text}
+use Rattle.restructure_asks.specs.Answer.{Answer, IsUnasked, IsRefusalOf, IsOfRestructure, IsOfReport, IsOfCheck, IsOfGenerate, IsOfTrial, IsDue, IsAnswered, program_text}
 use Rattle.restructure_asks.specs.Reading.{Tells}
 use Rattle.restructure_asks.specs.Tool.{EndsOfText, IsRefused}
-use Rattle.restructure_asks.specs.Laws.{trail_answer, AreAlike, statuses_of, OneAnswerIsDue, DueAnswerComes, AcceptedSourceIsDone, FaultySourceIsRefused, RefusedForFlowIsFaulty, UsageComes, GeneratedComes, WithinLimitAllIsRead}
+use Rattle.restructure_asks.specs.Laws.{trail_answer, AreAlike, statuses_of, OneAnswerIsDue, DueAnswerComes, AcceptedSourceIsDone, FaultySourceIsRefused, RefusedForFlowIsFaulty, UsageComes, GeneratedComes, TrialComes, WithinLimitAllIsRead}
 
 unasked-is : (answer : Answer) → IsUnasked answer → answer ≡ Err refusal.Usage
 unasked-is (Ok texts) h = absurd h
@@ -104,9 +104,29 @@ one-check : (bytes : List ℕ) (one other : Answer) → IsOfCheck bytes one → 
 one-check bytes one other h g = alike-due lines bytes one other (check-due bytes one h) (check-due bytes other g)
 
 one-generated : (n : ℕ) (one other : Answer) → IsOfGenerate n one → IsOfGenerate n other → AreAlike one other
-one-generated n (Ok one) (Ok other) h g = inl (ap Ok (h ∙ sym g))
+one-generated n (Ok one) (Ok other) h g = inl (ap Ok (h.is ∙ sym g.is))
 one-generated n (Ok one) (Err other) h g = absurd g
 one-generated n (Err one) other h g = absurd h
+
+-- what is due to a trial is due to a check of the program's text
+trial-check : (n : ℕ) (answer : Answer) → IsOfTrial n answer → IsOfCheck (program_text n) answer
+trial-check n (Ok texts) h = h
+trial-check n (Err refusal.Usage) h = h
+trial-check n (Err (refusal.Refused (refused.NotSubset why))) h = absurd h
+trial-check n (Err (refusal.Refused (refused.Flow program trail))) h = absurd h
+trial-check n (Err (refusal.Refused (refused.Limit limit))) h = ((λ e. cc), inr (inr h))
+trial-check n (Err (refusal.Refused refused.NoMemory)) h = absurd h
+trial-check n (Err (refusal.Device name)) h = h
+trial-check n (Err (refusal.Fault program fault)) h = h
+trial-check n (Err (refusal.Abend abend)) h = h
+trial-check n (Err (refusal.Budget steps)) h = h
+trial-check n (Err refusal.ReadFault) h = h
+trial-check n (Err refusal.NoSecond) h = h
+trial-check n (Err (refusal.Second why)) h = h
+trial-check n (Err (refusal.SecondDevice name)) h = h
+trial-check n (Err (refusal.Differ number)) h = h
+trial-check n (Err refusal.WriteFault) h = h
+trial-check n (Err refusal.NoMemory) h = h
 
 pub one-answer : OneAnswerIsDue
 one-answer None bytes one other h g = inl (unasked-is one h ∙ sym (unasked-is other g))
@@ -116,7 +136,7 @@ one-answer (Some Check) bytes one other h g = one-check bytes one other h g
 one-answer (Some (Run steps)) bytes one other h g = absurd h
 one-answer (Some (Compare steps)) bytes one other h g = absurd h
 one-answer (Some (Generate n)) bytes one other h g = one-generated n one other h g
-one-answer (Some (Trial n)) bytes one other h g = one-check (program_text n) one other h g
+one-answer (Some (Trial n)) bytes one other h g = one-check (program_text n) one other (trial-check n one h) (trial-check n other g)
 
 -- What is due comes.
 
@@ -358,6 +378,46 @@ generated-comes n source out notes status.Abend h = absurd h
 generated-comes n source out notes status.Budget h = absurd h
 generated-comes n source out notes status.Differ h = absurd h
 generated-comes n source out notes status.NoMemory h = inr (inr (inl refl))
+
+-- whose refusal is due to a trial
+trial-limit : (n : ℕ) (r : Refusal) → IsOfTrial n (Err r) → status_of r ≡ status.Limit
+trial-limit n refusal.Usage h = absurd h
+trial-limit n (refusal.Refused (refused.NotSubset why)) h = absurd h
+trial-limit n (refusal.Refused (refused.Flow program trail)) h = absurd h
+trial-limit n (refusal.Refused (refused.Limit limit)) h = refl
+trial-limit n (refusal.Refused refused.NoMemory) h = absurd h
+trial-limit n (refusal.Device name) h = absurd h
+trial-limit n (refusal.Fault program fault) h = absurd h
+trial-limit n (refusal.Abend abend) h = absurd h
+trial-limit n (refusal.Budget steps) h = absurd h
+trial-limit n refusal.ReadFault h = absurd h
+trial-limit n refusal.NoSecond h = absurd h
+trial-limit n (refusal.Second why) h = absurd h
+trial-limit n (refusal.SecondDevice name) h = absurd h
+trial-limit n (refusal.Differ number) h = absurd h
+trial-limit n refusal.WriteFault h = absurd h
+trial-limit n refusal.NoMemory h = absurd h
+
+module _ (n : ℕ) (source : SourceCall) (out notes : SinkCall) where
+  abbrev TrialStatus : Status → Type 0
+  TrialStatus = IsOneOf (status.Done ∷ status.Limit ∷ status.WriteFault ∷ status.NoMemory ∷ [])
+
+  trial-refused : (answer : Status) → IsRefused (Some (Trial n)) source out notes answer → TrialStatus answer
+  trial-refused answer h = inr (inl (h.status ∙ trial-limit n h.refusal h.answered.due))
+
+pub trial-comes : TrialComes
+trial-comes n source out notes status.Done h = inl refl
+trial-comes n source out notes status.Usage h = trial-refused n source out notes status.Usage h
+trial-comes n source out notes status.NotSubset h = trial-refused n source out notes status.NotSubset h
+trial-comes n source out notes status.Flow h = trial-refused n source out notes status.Flow h
+trial-comes n source out notes status.Limit h = trial-refused n source out notes status.Limit h
+trial-comes n source out notes status.ReadFault h = absurd (let some = h.fault.asked in omega (arith, some))
+trial-comes n source out notes status.WriteFault h = inr (inr (inl refl))
+trial-comes n source out notes status.DeviceFault h = absurd h
+trial-comes n source out notes status.Abend h = absurd h
+trial-comes n source out notes status.Budget h = absurd h
+trial-comes n source out notes status.Differ h = absurd h
+trial-comes n source out notes status.NoMemory h = inr (inr (inr (inl refl)))
 
 pub all-read : WithinLimitAllIsRead
 all-read bytes within = ap Some (drop_of_length-le bytes (let few : length bytes ≤ max_source + 1 = omega (arith, within) in few))

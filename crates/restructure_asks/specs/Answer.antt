@@ -3,11 +3,12 @@ use Rattle.std.specs.Prelude.{ℕ, ◌≡◌, ◌≢◌, ◌⊎◌, List, Option
 use Rattle.cob_base.specs.Source.{SourceCall}
 use Rattle.program_gen.specs.Generated.{generated}
 use Rattle.cobol_print.specs.Program.{printed}
+use Rattle.cobol_read.specs.Reading.{Reads}
 use Rattle.procedure_split.specs.declared.report.report.Report as reports
 use Rattle.procedure_split.specs.report.Lines.{report_text}
 use Rattle.restructure_core.specs.declared.fault.Refused.TheVariants as refused
 use Rattle.restructure_core.specs.declared.pipeline.Done.{Done}
-use Rattle.restructure_core.specs.Pipeline.{IsRestructured, IsReported, HasCause}
+use Rattle.restructure_core.specs.Pipeline.{IsRestructured, IsReported, IsPastLimit, HasCause}
 use Rattle.restructure_asks.specs.declared.ask.Ask.{Ask}
 use Rattle.restructure_asks.specs.declared.ask.Ask.TheVariants.{Restructure, Report, Check, Run, Compare, Generate, Trial}
 use Rattle.restructure_asks.specs.declared.texts.Texts.{Texts}
@@ -65,13 +66,27 @@ IsOfCheck bytes (Err refusal) = IsRefusalOf bytes refusal
 abbrev pub program_text : ℕ → List ℕ
 program_text n = printed (generated n)
 
+-- the text of the generated program of a number, which reads to that very program
+pub record IsGenerated (n : ℕ) (texts : Texts) : Type 0 where
+  -- it is what is written of the program
+  pub is : texts ≡ text_alone (program_text n)
+  -- it reads to that very program
+  pub read_back : Reads texts.text (generated n)
+
 -- the answer is due where the program of this number is generated: its text, and never a refusal
 abbrev pub IsOfGenerate : ℕ → Answer → Type 0
-IsOfGenerate n (Ok texts) = texts ≡ text_alone (program_text n)
+IsOfGenerate n (Ok texts) = IsGenerated n texts
 IsOfGenerate n (Err refusal) = ⊥
 
--- what is due to each ask for a text. A trial is a check of what is written of the program. What
--- is due to run a source, specs/Running.antt says, and to compare two, specs/Comparing.antt.
+-- the answer is due where the program of this number is tried: the report of its text; it is
+-- refused only where it passes a limit of restructuring
+abbrev pub IsOfTrial : ℕ → Answer → Type 0
+IsOfTrial n (Ok texts) = IsReport (program_text n) texts
+IsOfTrial n (Err (refusal.Refused (refused.Limit limit))) = IsPastLimit (program_text n) limit
+IsOfTrial n (Err refusal) = ⊥
+
+-- what is due to each ask for a text. What is due to run a source, specs/Running.antt says, and to
+-- compare two, specs/Comparing.antt.
 abbrev pub IsDue : Option Ask → List ℕ → Answer → Type 0
 IsDue None bytes answer = IsUnasked answer
 IsDue (Some Restructure) bytes answer = IsOfRestructure bytes answer
@@ -80,7 +95,7 @@ IsDue (Some Check) bytes answer = IsOfCheck bytes answer
 IsDue (Some (Run steps)) bytes answer = ⊥
 IsDue (Some (Compare steps)) bytes answer = ⊥
 IsDue (Some (Generate n)) bytes answer = IsOfGenerate n answer
-IsDue (Some (Trial n)) bytes answer = IsOfCheck (program_text n) answer
+IsDue (Some (Trial n)) bytes answer = IsOfTrial n answer
 
 -- what is made for the ask: what is due to it, unless memory runs out
 abbrev pub IsMadeFor : Option Ask → List ℕ → Answer → Type 0

@@ -263,6 +263,14 @@ GeneratedComes =
     Ends (Some (Generate n)) source out notes answer →
     IsOneOf (status.Done ∷ status.WriteFault ∷ status.NoMemory ∷ []) answer
 
+-- trial ends with the report of its program, a write fault or out of memory, or with LIMIT, whatever
+-- the source: the program is read, and no flow path of it comes to a fault
+abbrev pub TrialComes : Type 0
+TrialComes =
+    (n : ℕ) (source : SourceCall) (out notes : SinkCall) (answer : Status) →
+    Ends (Some (Trial n)) source out notes answer → IsOneOf
+    (status.Done ∷ status.Limit ∷ status.WriteFault ∷ status.NoMemory ∷ []) answer
+
 -- nothing is left of bytes within the limit
 abbrev pub WithinLimitAllIsRead : Type 0
 WithinLimitAllIsRead =

@@ -1,6 +1,6 @@
 //! What follows from how a call ends.
 
-ghost use Rattle.restructure_asks.specs.Laws.{WordsAreOfTheirAsk, OneAnswerIsDue, DueAnswerComes, AcceptedSourceIsDone, FaultySourceIsRefused, RefusedForFlowIsFaulty, OneRunIsDue, DueRunComes, OneRunIsDueOnFiles, DueRunComesOnFiles, BenchIsLeft, UsageComes, GeneratedComes, OneComparisonIsDue, DueComparisonComes, ComparisonsTell, ResultComesAgain, WithinLimitAllIsRead};
+ghost use Rattle.restructure_asks.specs.Laws.{WordsAreOfTheirAsk, OneAnswerIsDue, DueAnswerComes, AcceptedSourceIsDone, FaultySourceIsRefused, RefusedForFlowIsFaulty, OneRunIsDue, DueRunComes, OneRunIsDueOnFiles, DueRunComesOnFiles, BenchIsLeft, UsageComes, GeneratedComes, TrialComes, OneComparisonIsDue, DueComparisonComes, ComparisonsTell, ResultComesAgain, WithinLimitAllIsRead};
 
 use fixed_point_laws::results::results_are_fixed;
 
@@ -27,6 +27,7 @@ pub fn due_answer_comes()
     ensures flow { RefusedForFlowIsFaulty }
     ensures usage { UsageComes }
     ensures generated { GeneratedComes }
+    ensures tried { TrialComes }
 {}
 
 /// At most one end of a run is due, and it comes, unless a source, sink or device fails or memory

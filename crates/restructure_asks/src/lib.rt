@@ -5,7 +5,7 @@
 //! of the command line are defined by `ask_of` in `specs/Ask.antt`, and the lines of a refusal,
 //! with their statuses, by `specs/Refusal.antt` and `specs/Kind.antt`. That an answer comes exactly
 //! where it is due is the law `due_answer_comes`, for a run `due_run_comes`, and for a comparison
-//! `due_comparison_comes`. Only tested, in `restructure_tool`: that calls succeed where memory is
+//! `due_comparison_comes`. Only tested, in `tool_tests`: that calls succeed where memory is
 //! ample.
 #![tactic(auto)]
 

@@ -11,8 +11,10 @@ use crate::refusal::Refusal;
 use crate::texts::Texts;
 use cob_base::{NoMemory, Text};
 use cobol_print::print;
+use end_to_end_laws::generated::readable_generated::generated_programs_read_back;
 use procedure_split::report::report_text;
 use program_gen::generate;
+use program_gen::laws::generated_programs_are_faultless;
 use restructure_core::{Done, check, restructure};
 use std::alloc::Global;
 
@@ -64,6 +66,7 @@ pub fn generated(alloc: Global, n: u32) -> Result<Texts, Refusal>
     requires { IsProgramNumber n }
     ensures { (bytes : List ℕ) → IsMadeFor (Some (Generate n)) bytes result }
 {
+    generated_programs_read_back();
     let text = program_text(alloc, n)?;
     Ok(Texts { text, report: None })
 }
@@ -73,6 +76,8 @@ pub fn tried(alloc: Global, n: u32) -> Result<Texts, Refusal>
     requires { IsProgramNumber n }
     ensures { (bytes : List ℕ) → IsMadeFor (Some (Trial n)) bytes result }
 {
+    generated_programs_read_back();
+    generated_programs_are_faultless();
     let text = program_text(alloc, n)?;
     checked(alloc, text.as_slice())
 }

@@ -87,34 +87,40 @@ fn restructured(alloc: Global, bytes: &[u8]) -> Result<Done, Refused>
     let program = read(alloc, bytes)?;
     match flow_of(alloc, &program)? {
         Flow::Faulty(trail) => Err(Refused::Flow(program, trail)),
-        Flow::Clear(summary) => {
-            let done = restructure_program(alloc, &program, &summary);
-            drop(summary);
-            drop(program);
-            done
-        }
+        Flow::Clear(summary) => restructure_program(alloc, program, summary),
     }
 }
 
 /// The text of the procedures that a program without a fault of flow is split into, and the report.
+/// The program is dropped before the text is made, so that the two aren't in memory together.
 #[tactic(auto, using(crate::proofs::Answering::splits_answer))]
-fn restructure_program(alloc: Global, program: &Program, summary: &Summary) -> Result<Done, Refused>
-    requires flow { HasFlow program.now summary.now }
-    requires clear { IsClear program.now summary.now }
-    ensures { IsAnswerTo program.now result }
+fn restructure_program(alloc: Global, program: Program, summary: Summary) -> Result<Done, Refused>
+    requires flow { HasFlow program summary }
+    requires clear { IsClear program summary }
+    ensures { IsAnswerTo program result }
 {
-    let made = split(alloc, program, summary)?;
-    let added = made.added;
-    let text = print_result(alloc, &made.program);
-    drop(made);
-    match text {
-        Ok(text) => match report_of(alloc, program, summary, added) {
-            Ok(report) => Ok(Done { text, report }),
-            Err(_) => {
-                drop(text);
-                Err(Refused::NoMemory)
+    match split(alloc, &program, &summary) {
+        Ok(made) => {
+            let report = report_of(alloc, &program, &summary, made.added);
+            drop(summary);
+            drop(program);
+            let text = print_result(alloc, &made.program);
+            drop(made);
+            match text {
+                Ok(text) => match report {
+                    Ok(report) => Ok(Done { text, report }),
+                    Err(_) => {
+                        drop(text);
+                        Err(Refused::NoMemory)
+                    }
+                },
+                Err(why) => Err(why),
             }
-        },
-        Err(why) => Err(why),
+        }
+        Err(fault) => {
+            drop(summary);
+            drop(program);
+            Err(Refused::from(fault))
+        }
     }
 }

@@ -9,8 +9,6 @@
 
 mod host;
 mod subfolder;
-#[cfg(test)]
-mod tests;
 
 use cob_base::{NoMemory, Sink, Source, StdSink, StdSource, Text};
 use file_model::folder::FolderDevice;

@@ -1,6 +1,6 @@
 //! Statements that hold no escape.
 
-ghost use Rattle.std.specs.Prelude.{false, IfOk, OnOk};
+ghost use Rattle.std.specs.Prelude.{◌≡◌, false, IfOk, OnOk};
 ghost use Rattle.statement_lowering.specs.LowerList.{flow_facts_by};
 ghost use Rattle.statement_lowering.specs.EscapeFree.{AddsCut, Completes, Escapes, IsKind, RunsWhole};
 
@@ -50,6 +50,18 @@ fn kind_of(stmt: &Stmt) -> StmtKind
     }
 }
 
+/// Makes room for one more piece. The first gets room for itself alone, and the second for one more,
+/// since most bodies have one piece or two.
+fn make_room(body: &mut Vec<Piece>) -> Result<(), NoMemory>
+    ensures { body.new.items ≡ body.old.items }
+{
+    let count = body.len();
+    if count == body.capacity() {
+        body.reserve_exact(count.max(1))?;
+    }
+    Ok(())
+}
+
 /// Adds a statement, with its lists cut, to a body.
 fn push_cut(
     alloc: Global,
@@ -61,6 +73,7 @@ fn push_cut(
     ensures { OnOk result
         (AddsCut (flow_facts_by telling.now) stmt.now body.old.items body.new.items) }
 {
+    make_room(body)?;
     let cut = cut_stmt(alloc, stmt, telling.files, telling.returning)?;
     body.push(Piece::Own(cut))?;
     Ok(())

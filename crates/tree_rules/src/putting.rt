@@ -79,7 +79,7 @@ pub fn put(tree: &mut Tree, label: Label, by: Tree) -> Option<Tree>
 {
     match place(tree, label, by) {
         Substituted::Done => None,
-        Substituted::Elsewhere(back) => Some(back),
+        Substituted::Elsewhere(_) => unreachable!(),
         Substituted::NoRoom(back) => Some(back),
     }
 }

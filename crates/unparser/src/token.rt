@@ -16,7 +16,7 @@ use std::marker::Model;
 #[derive(Debug, Drop)]
 pub struct Tokens {
     alloc: Global,
-    list: Items<TokenKind>,
+    list: Vec<TokenKind>,
 }
 
 impl Model for Tokens {
@@ -25,7 +25,7 @@ impl Model for Tokens {
 
     ghost Value = { List TokenKind };
 
-    ghost view = { λ tokens. tokens.list };
+    ghost view = { λ tokens. tokens.list.items };
 }
 
 fn reserved_word(text: &[u8]) -> Word
@@ -57,7 +57,7 @@ impl Tokens {
     {
         Tokens {
             alloc,
-            list: Items::new(alloc),
+            list: Vec::new(alloc),
         }
     }
 
@@ -66,14 +66,15 @@ impl Tokens {
         ensures { result ≡ self }
     {
         let Tokens { alloc: _, list } = self;
-        list
+        Items::from_vec(list)
     }
 
     /// Adds a token.
     pub fn push(&mut self, token: TokenKind) -> Result<(), NoMemory>
         ensures { OnOk result (self.new ≡ self.old ++ token ∷ []) }
     {
-        self.list.push(token)
+        self.list.push(token)?;
+        Ok(())
     }
 
     /// Adds a word of the language.

@@ -14,3 +14,5 @@ pub mod Ending
 pub mod Closed
 -- What is left of a shaped graph with one node: a body, and an end that is no jump and no choice.
 pub mod Single
+-- Where every part is so, what follows from it holds of every part.
+pub mod EachTurned

@@ -1,5 +1,5 @@
 -- Of own items control makes no word on an added one: operands, conditions and choices.
-use Rattle.std.proofs.Common.{◌≡◌, ℕ, zero, suc, ◌<◌, ◌≤◌, ◌^◌, ◌-◌, nat_lt, nat_le, Bool, true, false, ◌&&◌, if◌then◌else◌, List, [], ◌∷◌, map, Option, Some, None, refl, ap, sym, ◌∙◌, subst, ltb-true, leb-true, arith}
+use Rattle.std.proofs.Common.{◌≡◌, ℕ, ◌<◌, ◌≤◌, ◌^◌, ◌-◌, nat_lt, nat_le, Bool, true, false, ◌&&◌, if◌then◌else◌, List, [], ◌∷◌, map, Option, Some, None, refl, sym, ◌∙◌, subst, ltb-true, leb-true, arith}
 use Rattle.std.proofs.lemmas.Bool.{and_parts}
 use Rattle.cob_tree.specs.declared.calc.Calc.{Calc}
 use Rattle.cob_tree.specs.declared.calc.Calc.TheVariants as calc
@@ -10,21 +10,19 @@ use Rattle.cob_tree.specs.declared.choice.Test.{Test}
 use Rattle.cob_tree.specs.declared.cond.Cond.{Cond, ind-Cond, map-Cond, roll-Cond, fold-roll-Cond}
 use Rattle.cob_tree.specs.declared.cond.Cond.TheOpen.{Cond-F}
 use Rattle.cob_tree.specs.declared.cond.Rel.{Rel}
-use Rattle.cob_tree.specs.declared.cond.Rel.TheVariants.{Equal, Greater}
 use Rattle.cob_tree.specs.declared.control.Control.{Control}
 use Rattle.cob_tree.specs.declared.control.Control.TheVariants as control
-use Rattle.cob_tree.specs.declared.number.Number.{Number}
 use Rattle.cob_tree.specs.declared.place.Expr.{Expr, out-Expr, fold_out-Expr, map-Expr}
-use Rattle.cob_tree.specs.declared.place.Expr.TheOpen.{Expr-F, Operand-F, Place-F}
+use Rattle.cob_tree.specs.declared.place.Expr.TheOpen.{Expr-F, Operand-F}
 use Rattle.cob_tree.specs.declared.place.Operand.{Operand, out-Operand, fold_out-Operand, map-Operand}
-use Rattle.cob_tree.specs.declared.place.Place.{Place, out-Place, fold_out-Place, map-Place}
+use Rattle.cob_tree.specs.declared.place.Place.{Place, out-Place, fold_out-Place}
 use Rattle.cob_tree.specs.declared.place.Sub.{Sub}
 use Rattle.cob_tree.specs.declared.place.Window.{Window}
 use Rattle.control_flow_theory.specs.language.Language as language
-use Rattle.control_flow_theory.specs.language.All.{all, if_there}
-use Rattle.control_flow_theory.specs.language.Control.{cell_of, cell_named, cell_in, number_in, number_written, is_number, relation_of, Tested, tested_step, tested, test_of, move_to, move_of, lowered_cell, arith_act, arith_of, count_from, cell_chosen, picker_by, evaluate_of, control_in, setting_item, augmented}
+use Rattle.control_flow_theory.specs.language.All.{all}
+use Rattle.control_flow_theory.specs.language.Control.{cell_of, cell_named, cell_in, number_in, number_written, is_number, relation_of, Tested, tested_step, tested, test_of, move_to, move_of, lowered_cell, arith_act, arith_of, count_from, cell_chosen, picker_by, evaluate_of, control_in}
 use Rattle.control_flow_theory.specs.language.Own.{OwnAct, OwnTest, OwnPicker, OwnControl}
-use Rattle.control_flow_theory.specs.language.OwnItems.{expr_step, operand_step, place_step, sub_step, window_step, place_own, operand_own, expr_own, sub_own, window_own, places_own, operands_own, cond_step, cond_own, control_own, calc_own, target_own, subject_own}
+use Rattle.control_flow_theory.specs.language.OwnItems.{expr_step, operand_step, place_step, sub_step, window_step, place_own, operand_own, expr_own, sub_own, window_own, places_own, cond_step, cond_own, control_own, target_own, subject_own}
 
 -- Cells.
 

@@ -1,5 +1,5 @@
 -- Of own items control makes no word on an added one: statements.
-use Rattle.std.proofs.Common.{◌≡◌, ℕ, suc, Bool, true, false, ◌&&◌, List, [], ◌∷◌, map, Option, Some, None, refl, ap, sym, ◌∙◌, subst}
+use Rattle.std.proofs.Common.{◌≡◌, ℕ, suc, Bool, true, ◌&&◌, List, [], ◌∷◌, map, Option, Some, None, refl, sym, ◌∙◌, subst}
 use Rattle.std.proofs.lemmas.Bool.{and_parts}
 use Rattle.cob_tree.specs.declared.calc.Calc.{Calc}
 use Rattle.cob_tree.specs.declared.calc.Target.{Target}
@@ -11,8 +11,8 @@ use Rattle.cob_tree.specs.declared.stmt.When.{When, roll-When, map-When, fold-ro
 use Rattle.cob_tree.specs.declared.stmt.Stmt.{Stmt, ind-Stmt, map-Stmt, roll-Stmt, fold-roll-Stmt}
 use Rattle.cob_tree.specs.declared.stmt.Stmt.TheOpen.{Stmt-F, Arms-F, When-F}
 use Rattle.control_flow_theory.specs.language.Language as language
-use Rattle.control_flow_theory.specs.language.All.{all, all_if}
-use Rattle.control_flow_theory.specs.language.Control.{arith_of, arith_stmt, arm_before, else_of, stmts_of, control_in, loop_of, perform_of, Branch, branches_before, Both, both_arms, both_step, branch_step, seen_step, seen, seen_when, seen_both, seen_stmts, seen_sentence, section_last, seen_paragraphs}
+use Rattle.control_flow_theory.specs.language.All.{all}
+use Rattle.control_flow_theory.specs.language.Control.{arith_of, arith_stmt, arm_before, else_of, control_in, loop_of, perform_of, Branch, branches_before, Both, both_arms, both_step, branch_step, seen_step, seen, seen_when, seen_both, seen_stmts, seen_sentence, section_last, seen_paragraphs}
 use Rattle.control_flow_theory.specs.language.Own.{OwnAct, OwnStmt, OwnStmts, OwnArms, OwnParagraph, OwnParagraphs}
 use Rattle.control_flow_theory.specs.language.OwnItems.{operand_own, place_own, option_own, places_own, cond_own, control_own, calc_own, target_own, subject_own, test_own, stmt_step, arms_step, when_step, stmt_own, arms_own, when_own, stmts_own, sentences_own, paragraphs_own}
 use Rattle.control_flow_theory.proofs.language_lemmas.OwnCells.{cond-own, move-own, arith-own, evaluate-own, OwnTurns, control-own}

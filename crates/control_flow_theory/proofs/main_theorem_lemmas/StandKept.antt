@@ -19,7 +19,8 @@ use Rattle.control_flow_theory.proofs.graph_rules_lemmas.shapes.Reducing.{form-i
 use Rattle.control_flow_theory.proofs.structuring_lemmas.closing.RulesStayClosed.{join-closed, lowest-in, rule-step-closed, shaped-closed, any-step-closed}
 use Rattle.control_flow_theory.proofs.main_theorem_lemmas.graphs.ArmCounts.{last-several}
 use Rattle.control_flow_theory.proofs.main_theorem_lemmas.graphs.Becoming.{arms-become, joined-becomes, inlined-becomes, flat-becomes, stated-becomes}
-use Rattle.control_flow_theory.proofs.main_theorem_lemmas.graphs.ChoicesKept.{picks-self, join-graph-chooses, put-chooses, dispatch-own}
+use Rattle.control_flow_theory.proofs.main_theorem_lemmas.graphs.ChoicesKept.{Chooses, ArmsChoose, Picks, finds, picks-self, dispatch-own}
+use Rattle.control_flow_theory.proofs.structuring_lemmas.closing.SomeKept.{join-graph-some, put-some}
 use Rattle.control_flow_theory.proofs.main_theorem_lemmas.graphs.CellsKept.{Leads, reduced-leads, by-all-leads, rest-leads}
 use Rattle.control_flow_theory.proofs.main_theorem_lemmas.graphs.Bounds.{number-most, labels-size, targets-most, bare-most, bare-least, bare-returns, node-arms-count, step-fewer, by-all-fewer, shaped-fewer}
 
@@ -380,7 +381,7 @@ module _ (naming : Naming) (kinds : Writable) (procedures : List Procedure) (ran
         let exit = count graph.added in
         let t = tree_in graph.nodes label in
         let arms = exit_arms label t in
-        leads.1 exit arms (join-graph-chooses exit arms (exits_graph label graph) (put-chooses exit arms label (with_exits none_left_out exit label t) (inr (inl (picks-self exit arms))) graph.nodes there))
+        leads.1 exit arms (join-graph-some (Chooses exit arms) (ArmsChoose exit arms) (Picks exit arms) (finds exit arms) (exits_graph label graph) (put-some (Chooses exit arms) (ArmsChoose exit arms) (Picks exit arms) (finds exit arms) label (with_exits none_left_out exit label t) (inr (inl (picks-self exit arms))) graph.nodes there))
 
     exits-step-stands : (graph : Graph) (found : Option Label) → lowest (has_exits graph) graph.nodes ≡ found → Kept most_nodes graph → Leading (stepped graph (exits_step graph found)) → GraphStands graph → GraphStands (stepped graph (exits_step graph found))
     exits-step-stands graph None e k leads h = h

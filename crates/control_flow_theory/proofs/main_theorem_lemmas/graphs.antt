@@ -4,6 +4,8 @@ pub mod LoweredGraphs
 pub mod LaterCalls
 -- The graphs of a lowered program can be written, and so can what closing leaves of them.
 pub mod LoweredStand
+-- What lowering makes of a source whose every part is so is so in every part.
+pub mod EachLowered
 -- The cells that lowered nodes name are counters of loops by TIMES.
 pub mod NamedCells
 -- The counter of a small program.

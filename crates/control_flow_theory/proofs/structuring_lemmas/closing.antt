@@ -1,3 +1,11 @@
+-- What each rule keeps, all rules in their order keep.
+pub mod InOrder
+-- The rules keep it that every part is so.
+pub mod EachKept
+-- The rules lose no part: what stands in a graph stands in what they make of it.
+pub mod SomeKept
+-- Where a node's live leaves have several targets, its exits are two or more.
+pub mod TwoExits
 -- Exits and the dispatch, as functions of a graph, are in their relations.
 pub mod Closes
 -- A graph whose jumps are to its nodes stays one: after Exits, and after the dispatch.

@@ -1,5 +1,5 @@
 -- A program names its own items: each item number in it is below 2^31, where added items begin.
-use Rattle.std.specs.Prelude.{ℕ, ◌^◌, nat_lt, Bool, true, false, ◌&&◌, List, [], ◌∷◌, map, Option, Some, None, IsTrue}
+use Rattle.std.specs.Prelude.{◌^◌, nat_lt, Bool, true, ◌&&◌, List, map, Option, Some, None, IsTrue}
 use Rattle.cob_tree.specs.declared.place.Expr.{Expr, fold-Expr}
 use Rattle.cob_tree.specs.declared.place.Expr.TheOpen.{Expr-F, Operand-F, Place-F, Sub-F, Window-F}
 use Rattle.cob_tree.specs.declared.place.Operand.{Operand, fold-Operand}

@@ -13,9 +13,10 @@ use Rattle.procedure_split.specs.shaped_ranges.Laws.{HasFlow}
 use Rattle.procedure_split.proofs.made_procedures_lemmas.Rows.{shaped-at}
 use Rattle.procedure_split.specs.Splitting.{IsSplit}
 use Rattle.procedure_split.proofs.split_depth_lemmas.Split.{split-within}
-use Rattle.procedure_split.specs.kept_arms.Trees.{TreeHasArms, NodesHaveArms, GraphsHaveArms}
-use Rattle.procedure_split.proofs.kept_arms_lemmas.Rules.{body-has}
-use Rattle.procedure_split.proofs.kept_arms_lemmas.Graphs.{closed-has}
+use Rattle.procedure_split.specs.kept_arms.Trees.{TreeHasArms, NodesHaveArms, GraphsHaveArms, PickHasArms}
+use Rattle.control_flow_theory.proofs.structuring_lemmas.closing.EachKept.{body-each}
+use Rattle.procedure_split.specs.split_depth.Arms.{ChoiceHasArms}
+use Rattle.procedure_split.proofs.kept_arms_lemmas.Rules.{bears-rules, closed-has}
 
 first-has : (nodes : List Node) → NodesHaveArms nodes → TreeHasArms (first_tree nodes)
 first-has [] h = (tt, tt)
@@ -30,4 +31,4 @@ graphs-within program made summary flow split have =
     let closed = closed_graph (seen_graph shaped.0) in
     let first = first-has closed.nodes
     (closed-has (seen_graph shaped.0) (have at shaped.0 shaped.1)) in
-    body-has (seen_tree one.tree) (subst TreeHasArms shaped.2.tree first))
+    body-each ChoiceHasArms PickHasArms bears-rules (seen_tree one.tree) (subst TreeHasArms shaped.2.tree first))

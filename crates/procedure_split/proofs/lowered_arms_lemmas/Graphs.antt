@@ -1,5 +1,5 @@
 -- Graphs that a program whose statements are as they are read is lowered to have arms.
-use Rattle.std.proofs.Common.{◌≡◌, ◌≤◌, ℕ, zero, suc, ◌+◌, Bool, true, false, if◌then◌else◌, ◌==◌, List, [], ◌∷◌, map, Option, Some, None, slice_get, refl, sym, ◌∙◌, subst}
+use Rattle.std.proofs.Common.{◌≡◌, ◌≤◌, ℕ, zero, suc, Bool, true, false, List, [], ◌∷◌, map, refl, sym, ◌∙◌, subst}
 use Rattle.std.proofs.lemmas.Bool.{and_parts}
 use Rattle.cob_tree.specs.Depth.{program_depth}
 use Rattle.cob_tree.specs.declared.program.Paragraph as trees
@@ -7,17 +7,13 @@ use Rattle.cob_tree.specs.declared.program.Program as cobol
 use Rattle.cob_tree.specs.declared.program.Range as code
 use Rattle.cob_tree.specs.declared.program.Sentence as sentences
 use Rattle.control_flow_theory.specs.language.Control.{control_of, seen_paragraphs, seen_sentence, section_last}
-use Rattle.control_flow_theory.specs.language.Language.{Evaluate, Read, Arith, Depending, Picker, If, By, ByCell, Stmt, Do, Choose, Loop, Perform, Go, GoDepending, NextSentence, ExitParagraph, ExitSection, ExitPerform, StopRun, Stmts, none, also, Arms, done, given, missing, Body, Nested, Performed, Paragraph, Program, Range, Main, Part}
-use Rattle.control_flow_theory.specs.semantics.Graph.{Label, Tree, tree, End, Pick, Jump, Return, Stop, Dead, Trees, no_more, more}
+use Rattle.control_flow_theory.specs.language.Language.{Evaluate, Read, Arith, Depending, Picker, If, By, ByCell, Stmt, Choose, Arms, done, given, missing, Paragraph, Program, Range}
+use Rattle.control_flow_theory.specs.semantics.Graph.{Label, tree, End, Trees, no_more, more}
 use Rattle.control_flow_theory.specs.lowering.FlowFacts.{FlowFacts}
-use Rattle.control_flow_theory.specs.lowering.Completes.{sizes}
-use Rattle.control_flow_theory.specs.lowering.Lower.{Node, nodes, EscapeTargets, fall_leaf, paragraph_end_target, leaving_at}
-use Rattle.control_flow_theory.specs.lowering.Lowered.{total, place_in, nodes_left, nodes_from, nodes_of}
-use Rattle.control_flow_theory.specs.lowering.Reached.{kept_nodes}
-use Rattle.control_flow_theory.specs.lowering.Renamed.{picker_anew, stmt_anew, stmts_anew, arms_anew, body_anew, end_anew, trees_anew, tree_anew}
-use Rattle.control_flow_theory.specs.lowering.Rests.{Rest, Over, From, Sent, Turns, Cut, after_sentence, after_loop, at_loop, rest_from, leaf_of, leaving_of, tree_of}
+use Rattle.control_flow_theory.specs.lowering.Completes.{cut, cut_arms, first_is_dead}
+use Rattle.control_flow_theory.specs.lowering.Lower.{EscapeTargets, build_arms, depending}
+use Rattle.control_flow_theory.specs.lowering.Renamed.{picker_anew, stmt_anew, arms_anew, trees_anew}
 use Rattle.control_flow_theory.specs.graph_rules.Reduced.{Graph}
-use Rattle.control_flow_theory.specs.main_theorem.Chain.{graph_nodes}
 use Rattle.control_flow_theory.specs.main_theorem.Numbering.{numbers_by}
 use Rattle.program_facts.specs.completion.FlowFacts.{flow_facts_of}
 use Rattle.lowering_labels.specs.points.FallThrough.{seen_range}
@@ -30,127 +26,82 @@ use Rattle.cob_base.specs.Limit.{max_nesting}
 use Rattle.procedure_split.specs.shaped_ranges.Graphs.{AreGraphsOf, IsGraphOf}
 use Rattle.procedure_split.specs.shaped_ranges.Laws.{HasFlow}
 use Rattle.procedure_split.specs.Splitting.{IsSplit}
-use Rattle.procedure_split.specs.split_depth.Arms.{begins_given, has_some, has_given, HasArms, StmtHasArms, StmtsHaveArms, EachArmHas, BodyHasArms}
+use Rattle.procedure_split.specs.split_depth.Arms.{begins_given, has_some, has_given, HasArms, ChoiceHasArms}
 use Rattle.procedure_split.proofs.split_depth_lemmas.Named.{list-has}
-use Rattle.procedure_split.specs.kept_arms.Trees.{SomeTree, TreeHasArms, EndHasArms, TreesHaveArms, NodesHaveArms, GraphsHaveArms}
+use Rattle.procedure_split.specs.kept_arms.Trees.{SomeTree, PickHasArms, NodesHaveArms, GraphsHaveArms}
 use Rattle.procedure_split.proofs.kept_arms_lemmas.Split.{graphs-within}
-use Rattle.procedure_split.proofs.lowered_arms_lemmas.Built.{LeavingHas, AllHave, append-have, leaf-has, build-has, nodes-have}
+use Rattle.control_flow_theory.specs.language.Each.{EachSentence, EachParagraph}
+use Rattle.control_flow_theory.proofs.main_theorem_lemmas.graphs.EachLowered.{BearsLowering, lowered-each}
 
--- ---- rests
+-- ---- lowering
 
-abbrev RestHas : Rest → Type 0
-RestHas Over = Unit {0}
-RestHas (From place stmts others) = StmtsHaveArms stmts × RestHas others
-RestHas (Sent holds others) = RestHas others
-RestHas (Turns place control left reached body others) = RestHas others
-RestHas (Cut others) = RestHas others
+begins-some : (arms : Arms) → begins_given arms ≡ true → has_some arms ≡ true
+begins-some done h = cc
+begins-some (given arm others) h = refl
+begins-some (missing others) h = refl
 
-abbrev ParagraphHas : Paragraph → Type 0
-ParagraphHas [] = Unit {0}
-ParagraphHas (sentence ∷ sentences) = StmtsHaveArms sentence × ParagraphHas sentences
+given-some : (arms : Arms) → has_given arms ≡ true → has_some arms ≡ true
+given-some done h = cc
+given-some (given arm others) h = refl
+given-some (missing others) h = refl
 
-abbrev ParagraphsHave : List Paragraph → Type 0
-ParagraphsHave [] = Unit {0}
-ParagraphsHave (paragraph ∷ others) = ParagraphHas paragraph × ParagraphsHave others
+some-of : (picker : Picker) (arms : Arms) → HasArms picker arms → has_some arms ≡ true
+some-of (If test) arms h = begins-some arms h
+some-of (By (Evaluate subject tests has_other)) arms h = given-some arms h
+some-of (By (Read file into true)) arms h = begins-some arms h
+some-of (By (Read file into false)) arms h = h
+some-of (By (Arith calc into)) arms h = h
+some-of (By (Depending on names)) arms h = given-some arms h
+some-of (ByCell cell) arms h = given-some arms h
 
-rest-from-has : (told : FlowFacts) (place : ℕ) (paragraph : Paragraph) → ParagraphHas paragraph →
-    RestHas (rest_from told place paragraph)
-rest-from-has told place [] h = tt
-rest-from-has told place (sentence ∷ sentences) h =
-    (h.0, rest-from-has told (place + sizes sentence) sentences h.1)
+module _ (told : FlowFacts) where
+  begins-cut : (arms : Arms) → begins_given (cut_arms told arms) ≡ begins_given arms
+  begins-cut done = refl
+  begins-cut (given arm others) = refl
+  begins-cut (missing others) = refl
 
-module _ (told : FlowFacts) (places : ℕ → ℕ) (end : EscapeTargets) (l : LeavingHas end) where
-  leaf-of-has : (rest : Rest) → EndHasArms (leaf_of told places end rest)
-  leaf-of-has Over = l.paragraph
-  leaf-of-has (From place stmts others) =
-      leaf-has told places stmts place (leaf_of told places end others) (leaf-of-has others)
-  leaf-of-has (Sent holds others) = leaf-of-has others
-  leaf-of-has (Turns place control left reached body others) = tt
-  leaf-of-has (Cut others) = leaf-of-has others
+  given-cut : (arms : Arms) → has_given (cut_arms told arms) ≡ has_given arms
+  given-cut done = refl
+  given-cut (given arm others) = refl
+  given-cut (missing others) = given-cut others
 
-  leaving-of-has : (rest : Rest) → LeavingHas (leaving_of told places end rest)
-  leaving-of-has rest = record {
-    sentence = leaf-of-has (after_sentence rest);
-    paragraph = l.paragraph;
-    section = l.section;
-    loop = leaf-of-has (after_loop rest);
-    cycle = leaf-of-has (at_loop rest);
+  some-cut : (arms : Arms) → has_some (cut_arms told arms) ≡ has_some arms
+  some-cut done = refl
+  some-cut (given arm others) = refl
+  some-cut (missing others) = refl
+
+  picker-cut : (picker : Picker) (arms : Arms) → HasArms picker arms → HasArms picker (cut_arms told arms)
+  picker-cut (If test) arms h = begins-cut arms ∙ h
+  picker-cut (By (Evaluate subject tests has_other)) arms h = given-cut arms ∙ h
+  picker-cut (By (Read file into true)) arms h = begins-cut arms ∙ h
+  picker-cut (By (Read file into false)) arms h = some-cut arms ∙ h
+  picker-cut (By (Arith calc into)) arms h = some-cut arms ∙ h
+  picker-cut (By (Depending on names)) arms h = given-cut arms ∙ h
+  picker-cut (ByCell cell) arms h = given-cut arms ∙ h
+
+  cut-has : (stmt : Stmt) → ChoiceHasArms stmt → ChoiceHasArms (cut told stmt)
+  cut-has (Choose picker arms) h = picker-cut picker arms h
+  cut-has stmt h = tt
+
+  some-built : (places : ℕ → ℕ) (first : Bool) (arms : Arms) (place : ℕ) (leaving : EscapeTargets) (after : End) →
+      has_some arms ≡ true → SomeTree (build_arms told places first arms place leaving after)
+  some-built places first done place leaving after h = cc
+  some-built places first (given arm others) place leaving after h = tt
+  some-built places first (missing others) place leaving after h = tt
+
+  depending-some : (places : ℕ → ℕ) (to : List ℕ) (after : End) → SomeTree (depending told places to after)
+  depending-some places [] after = tt
+  depending-some places (to ∷ others) after = tt
+
+  bears-lowering : BearsLowering told ChoiceHasArms ChoiceHasArms PickHasArms
+  bears-lowering = record {
+    cuts = cut-has;
+    picks = λ places picker arms place leaving after h. some-built places (first_is_dead told picker) arms place leaving after (some-of picker arms h);
+    depends = λ places to on after h. depending-some places to after;
+    counts = λ amount body place one other h. (tt, tt, tt);
+    tests = λ after test body one other h. tt;
+    varies = λ after set step test body one other h. (tt, tt, tt);
   }
-
-  tree-of-has : (rest : Rest) → RestHas rest → TreeHasArms (tree_of told places end rest)
-  tree-of-has Over h = (tt, l.paragraph)
-  tree-of-has (From place stmts others) h =
-      build-has told places stmts place (leaving_of told places end others)
-      (leaf_of told places end others) (tree_of told places end others)
-      (leaving-of-has others) (leaf-of-has others) (tree-of-has others h.1) h.0
-  tree-of-has (Sent true others) h = (tt, leaf-of-has others)
-  tree-of-has (Sent false others) h = tree-of-has others h
-  tree-of-has (Turns place control left reached body others) h = (tt, tt)
-  tree-of-has (Cut others) h = (tt, leaf-of-has others)
-
-module _ (told : FlowFacts) (program : Program) where
-  abbrev places : ℕ → ℕ
-  places number = place_in program number
-
-  nodes-left-have : (end : EscapeTargets) → LeavingHas end → (rest : Rest) → RestHas rest →
-      AllHave (nodes_left told program end rest)
-  nodes-left-have end l Over h = tt
-  nodes-left-have end l (From place stmts others) h =
-      append-have (nodes told places stmts place (leaving_of told places end others)
-      (leaf_of told places end others) (tree_of told places end others))
-      (nodes_left told program end others)
-      (nodes-have told places stmts place (leaving_of told places end others)
-      (leaf_of told places end others) (tree_of told places end others)
-      (leaving-of-has told places end l others) (leaf-of-has told places end l others)
-      (tree-of-has told places end l others h.1) h.0)
-      (nodes-left-have end l others h.1)
-  nodes-left-have end l (Sent holds others) h = nodes-left-have end l others h
-  nodes-left-have end l (Turns place control left reached body others) h = nodes-left-have end l others h
-  nodes-left-have end l (Cut others) h = nodes-left-have end l others h
-
-  fall-has : (number : ℕ) (next : Option Paragraph) → EndHasArms (fall_leaf places number next)
-  fall-has number None = tt
-  fall-has number (Some next) = tt
-
-  end-leaf-has : (range : Range) (number : ℕ) → EndHasArms (paragraph_end_target places program range number)
-  end-leaf-has Main number = fall-has number (slice_get program.paragraphs (suc number))
-  end-leaf-has (Part entry exit) number =
-      elim (exit == number) as (λ t. EndHasArms (if t then Return else fall_leaf places number (slice_get program.paragraphs (suc number)))) [
-        | true ↦ tt
-        | false ↦ fall-has number (slice_get program.paragraphs (suc number))
-      ]
-
-  leaving-at-has : (range : Range) (number : ℕ) → LeavingHas (leaving_at places program range number)
-  leaving-at-has range number = record {
-    sentence = end-leaf-has range number;
-    paragraph = end-leaf-has range number;
-    section = end-leaf-has range;
-    loop = end-leaf-has range number;
-    cycle = end-leaf-has range number;
-  }
-
-  nodes-from-have : (range : Range) (number place : ℕ) (paragraphs : List Paragraph) →
-      ParagraphsHave paragraphs → AllHave (nodes_from told program range number place paragraphs)
-  nodes-from-have range number place [] h = tt
-  nodes-from-have range number place (paragraph ∷ others) h =
-      let end = leaving_at places program range number in
-      let l = leaving-at-has range number in
-      let rest = rest_from told (place + 1) paragraph in
-      let r = rest-from-has told (place + 1) paragraph h.0 in (
-        tree-of-has told places end l rest r,
-        append-have (nodes_left told program end rest)
-            (nodes_from told program range (suc number) (place + 1 + total paragraph) others)
-            (nodes-left-have end l rest r)
-            (nodes-from-have range (suc number) (place + 1 + total paragraph) others h.1),
-      )
-
-kept-have : (keep : Label → Bool) (xs : List Node) → AllHave xs → AllHave (kept_nodes keep xs)
-kept-have keep [] h = tt
-kept-have keep (x ∷ xs) h =
-    elim (keep x.key) as (λ t. AllHave (if t then x ∷ kept_nodes keep xs else kept_nodes keep xs)) [
-      | true ↦ (h.0, kept-have keep xs h.1)
-      | false ↦ kept-have keep xs h.1
-    ]
 
 -- ---- cells that are numbered anew
 
@@ -180,69 +131,25 @@ module _ (number : ℕ → ℕ) where
   picker-has (By (Depending on names)) arms h = given-anew arms ∙ h
   picker-has (ByCell cell) arms h = given-anew arms ∙ h
 
-  mutual
-    stmt-anew-has : (stmt : Stmt) → StmtHasArms stmt → StmtHasArms (stmt_anew number stmt)
-    stmt-anew-has (Do act) = λ h. tt
-    stmt-anew-has (Choose picker arms) = λ h. (picker-has picker arms h.0, arms-anew-have arms h.1)
-    stmt-anew-has (Loop control body) = λ h. body-anew-has body h
-    stmt-anew-has (Perform entry exit) = λ h. tt
-    stmt-anew-has (Go to) = λ h. tt
-    stmt-anew-has (GoDepending to on) = λ h. tt
-    stmt-anew-has NextSentence = λ h. tt
-    stmt-anew-has ExitParagraph = λ h. tt
-    stmt-anew-has (ExitSection last) = λ h. tt
-    stmt-anew-has (ExitPerform cycle) = λ h. tt
-    stmt-anew-has StopRun = λ h. tt
+  stmt-anew-has : (stmt : Stmt) → ChoiceHasArms stmt → ChoiceHasArms (stmt_anew number stmt)
+  stmt-anew-has (Choose picker arms) h = picker-has picker arms h
+  stmt-anew-has stmt h = tt
 
-    stmts-anew-have : (stmts : Stmts) → StmtsHaveArms stmts → StmtsHaveArms (stmts_anew number stmts)
-    stmts-anew-have none = λ h. tt
-    stmts-anew-have (also first others) = λ h. (stmt-anew-has first h.0, stmts-anew-have others h.1)
-
-    arms-anew-have : (arms : Arms) → EachArmHas arms → EachArmHas (arms_anew number arms)
-    arms-anew-have done = λ h. tt
-    arms-anew-have (given arm others) = λ h. (stmts-anew-have arm h.0, arms-anew-have others h.1)
-    arms-anew-have (missing others) = λ h. arms-anew-have others h
-
-    body-anew-has : (body : Body) → BodyHasArms body → BodyHasArms (body_anew number body)
-    body-anew-has (Nested stmts) = λ h. stmts-anew-have stmts h
-    body-anew-has (Performed entry exit) = λ h. tt
-
-  some-trees : (ts : Trees) → SomeTree ts → SomeTree (trees_anew number ts)
-  some-trees no_more some = absurd some
-  some-trees (more (tree body end) others) some = tt
-
-  mutual
-    end-anew-has : (end : End) → EndHasArms end → EndHasArms (end_anew number end)
-    end-anew-has (Pick picker arms) = λ h. (some-trees arms h.0, trees-anew-have arms h.1)
-    end-anew-has (Jump to) = λ h. tt
-    end-anew-has Return = λ h. tt
-    end-anew-has Stop = λ h. tt
-    end-anew-has Dead = λ h. tt
-
-    trees-anew-have : (ts : Trees) → TreesHaveArms ts → TreesHaveArms (trees_anew number ts)
-    trees-anew-have no_more = λ h. tt
-    trees-anew-have (more (tree body end) others) = λ h.
-        ((stmts-anew-have body h.0.0, end-anew-has end h.0.1), trees-anew-have others h.1)
-
-  tree-anew-has : (t : Tree) → TreeHasArms t → TreeHasArms (tree_anew number t)
-  tree-anew-has (tree body end) h = (stmts-anew-have body h.0, end-anew-has end h.1)
-
-  graph-nodes-have : (xs : List Node) → AllHave xs → NodesHaveArms (graph_nodes number xs)
-  graph-nodes-have [] h = tt
-  graph-nodes-have (x ∷ xs) h = (tree-anew-has x.tree h.0, graph-nodes-have xs h.1)
+  some-trees : (picker : Picker) (ts : Trees) → PickHasArms picker ts → PickHasArms (picker_anew number picker) (trees_anew number ts)
+  some-trees picker no_more some = absurd some
+  some-trees picker (more (tree body end) others) some = tt
 
 -- ---- the graphs of a program
 
-module _ (told : FlowFacts) (program : Program) (have : ParagraphsHave program.paragraphs) where
+module _ (told : FlowFacts) (program : Program) (have : EachParagraph ChoiceHasArms program.paragraphs) where
   graph-has : (range : Range) (graph : Graph) → IsGraphOf told program range graph →
       NodesHaveArms graph.nodes
   graph-has range graph is =
       let all : Range → Label → Bool = λ other. is.keep in
+      let number = numbers_by all program range in
       subst (λ (g : Graph). NodesHaveArms g.nodes) (sym is.is)
-      (graph-nodes-have (numbers_by all program range)
-      (kept_nodes is.keep (nodes_of told program range))
-      (kept-have is.keep (nodes_of told program range)
-      (nodes-from-have told program range 0 0 program.paragraphs have)))
+      (lowered-each told ChoiceHasArms ChoiceHasArms PickHasArms (bears-lowering told) program number ChoiceHasArms PickHasArms
+      (stmt-anew-has number) (some-trees number) have range is.keep)
 
   graphs-have : (ranges : List code.Range) (graphs : List coded.Graph) →
       AreGraphsOf told program ranges graphs → GraphsHaveArms graphs
@@ -259,7 +166,7 @@ module _ (told : FlowFacts) (program : Program) (have : ParagraphsHave program.p
 
 module _ (counts : Counts) where
   sentences-have : (last : ℕ) (list : List sentences.Sentence) → sentences_named counts list ≡ true →
-      ParagraphHas (map (seen_sentence last) list)
+      EachSentence ChoiceHasArms (map (seen_sentence last) list)
   sentences-have last [] e = tt
   sentences-have last (sentence ∷ list) e =
       let h = and_parts (sentence_named counts sentence) (sentences_named counts list) e in
@@ -267,7 +174,7 @@ module _ (counts : Counts) where
       (list-has counts last sentence.stmts s.1, sentences-have last list h.1)
 
   paragraphs-have : (number : ℕ) (list : List trees.Paragraph) → paragraphs_named counts list ≡ true →
-      ParagraphsHave (seen_paragraphs number list)
+      EachParagraph ChoiceHasArms (seen_paragraphs number list)
   paragraphs-have number [] e = tt
   paragraphs-have number (paragraph ∷ list) e =
       let h = and_parts (sentences_named counts paragraph.sentences) (paragraphs_named counts list) e in (

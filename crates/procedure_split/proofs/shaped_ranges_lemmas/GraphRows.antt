@@ -38,7 +38,7 @@ use Rattle.statement_lowering.specs.declared.continuations.continuation.Continua
 use Rattle.procedure_split.specs.shaped_ranges.Graphs.{AreGraphsOf, HaveGraphs, IsGraphOf, graph_by, node_count, total_size}
 use Rattle.cob_base.specs.Limit.{max_nodes}
 use Rattle.procedure_split.specs.shaped_ranges.Limit.{AreLowered, IsLoweringFault, nodes_passed}
-use Rattle.procedure_split.specs.shaped_ranges.Shaping.{AllClosed}
+use Rattle.procedure_split.specs.shaped_ranges.Shaping.{AllReady, IsReady}
 use Rattle.procedure_split.specs.shaped_ranges.Graphing.{AreLoweredIn, AreRangesIn, AreRangesOf, IsCountedOn, IsGraphIn, IsLoweringFaultIn, IsPastBy}
 use Rattle.procedure_split.proofs.shaped_ranges_lemmas.NumberedSizes.{numbered-size}
 
@@ -352,11 +352,11 @@ counted-all context spots ranges index others count so past = λ program are.
       was.2,
     )
 
-pub closed-more : (graphs new : List Graph) (graph : Graph) → new ≡ graphs ++ graph ∷ [] →
-    AllClosed graphs → IsClosed (seen_graph graph) → AllClosed new
-closed-more graphs new graph is all closed = subst AllClosed (sym is) (behind graphs all) where
-  behind : (before : List Graph) → AllClosed before → AllClosed (before ++ graph ∷ [])
-  behind [] all = (closed, tt)
+pub ready-more : (graphs new : List Graph) (graph : Graph) → new ≡ graphs ++ graph ∷ [] →
+    AllReady graphs → IsReady graph → AllReady new
+ready-more graphs new graph is all ready = subst AllReady (sym is) (behind graphs all) where
+  behind : (before : List Graph) → AllReady before → AllReady (before ++ graph ∷ [])
+  behind [] all = (ready, tt)
   behind (first ∷ before) all = (all.0, behind before all.1)
 
 -- In a program.

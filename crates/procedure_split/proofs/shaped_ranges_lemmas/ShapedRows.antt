@@ -5,11 +5,11 @@ use Rattle.cob_tree.specs.declared.fault.SplitFault.{SplitFault}
 use Rattle.cob_tree.specs.declared.fault.SplitFault.TheVariants as faults
 use Rattle.branch_tree.specs.Graph.{seen_added, seen_graph}
 use Rattle.branch_tree.specs.declared.graph.Graph.{Graph}
-use Rattle.control_flow_theory.specs.structuring.Closes.{IsClosed, closed_graph}
+use Rattle.control_flow_theory.specs.structuring.Closes.{closed_graph}
 use Rattle.region_rewrite.specs.Shaping.{Shapes}
 use Rattle.region_rewrite.specs.declared.shaping.Shaped.{Shaped}
 use Rattle.procedure_split.specs.declared.shaped_ranges.shaping.Closed.{Closed}
-use Rattle.procedure_split.specs.shaped_ranges.Shaping.{AllClosed, AllShaped, IsClosedFrom, IsShapedTo, IsTooDeep}
+use Rattle.procedure_split.specs.shaped_ranges.Shaping.{AllReady, AllShaped, IsClosedFrom, IsReady, IsShapedTo, IsTooDeep}
 
 -- those that aren't left were shaped to these
 pub record SoFar (graphs left : List Graph) (made : List Closed) : Type 0 where
@@ -21,9 +21,9 @@ pub begun : (graphs left : List Graph) → left ≡ reverse graphs → SoFar gra
 begun graphs left is =
     record { done = []; all = sym (ap reverse is ∙ reverse-reverse graphs); shaped = tt }
 
-closed-behind : (done left : List Graph) → AllClosed (done ++ left) → AllClosed left
-closed-behind [] left h = h
-closed-behind (graph ∷ done) left h = closed-behind done left h.1
+ready-behind : (done left : List Graph) → AllReady (done ++ left) → AllReady left
+ready-behind [] left h = h
+ready-behind (graph ∷ done) left h = ready-behind done left h.1
 
 more-shaped : (done : List Graph) (made : List Closed) (graph : Graph) (closed : Closed) →
     AllShaped done made → IsShapedTo (seen_graph graph) closed →
@@ -42,12 +42,11 @@ next-of graphs old new graph made so is =
     so.all ∙ ap (λ l. so.done ++ reverse l) is
     ∙ ap (λ l. so.done ++ l) (reverse-append new (graph ∷ []))
 
-pub closed-next : (graphs old new : List Graph) (graph : Graph) (made : List Closed)
-    (so : SoFar graphs old made) → old ≡ new ++ graph ∷ [] → AllClosed graphs →
-    IsClosed (seen_graph graph)
-closed-next graphs old new graph made so is closed =
-    (closed-behind so.done (graph ∷ reverse new)
-    (subst AllClosed (next-of graphs old new graph made so is) closed)).0
+pub ready-next : (graphs old new : List Graph) (graph : Graph) (made : List Closed)
+    (so : SoFar graphs old made) → old ≡ new ++ graph ∷ [] → AllReady graphs → IsReady graph
+ready-next graphs old new graph made so is ready =
+    (ready-behind so.done (graph ∷ reverse new)
+    (subst AllReady (next-of graphs old new graph made so is) ready)).0
 
 -- a body and its end make the tree
 pub shaped-to : (graph : Graph) (shaped : Shaped) (closed : Closed) →

@@ -163,7 +163,7 @@ module _ (way : Way) where
         (right-in (written_least picker arms) (arms_levels written)) in
         subst (λ n. arms_nesting picker true arms ≤ max (written_least picker arms) n)
         (sym (whole-levels (picker_lacks naming way.place way.range picker) written)) under
-    stmt-above (Loop control body) = λ h. body-above body h
+    stmt-above (Loop control body) = λ h. body-above body h.1
     stmt-above (Perform entry exit) = λ h. itself 0
     stmt-above (Go to) = λ h. itself 0
     stmt-above (GoDepending to on) = λ h. itself 0

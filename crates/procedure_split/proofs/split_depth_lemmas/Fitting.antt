@@ -155,7 +155,7 @@ module _ (way : Way) where
     stmt-fits (Do act) = λ h. tt
     stmt-fits (Choose picker arms) = λ h.
         let here = pick-fits picker arms h.0 in (here.0, here.1, arms-fit arms h.1)
-    stmt-fits (Loop control body) = λ h. body-fits body h
+    stmt-fits (Loop control body) = λ h. body-fits body h.1
     stmt-fits (Perform entry exit) = λ h. tt
     stmt-fits (Go to) = λ h. tt
     stmt-fits (GoDepending to on) = λ h. tt

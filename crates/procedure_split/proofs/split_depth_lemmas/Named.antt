@@ -54,12 +54,12 @@ picker-has (Some cell) false subject tests has_other arms h = h
 loop-has : (control : Option language.Control) (body : language.Stmts) → StmtsHaveArms body →
     StmtHasArms (loop_of control body)
 loop-has None body h = (refl, (h, tt))
-loop-has (Some control) body h = h
+loop-has (Some control) body h = (tt, h)
 
 perform-has : (control : Option language.Control) (entry exit : ℕ) →
     StmtHasArms (perform_of control entry exit)
 perform-has None entry exit = tt
-perform-has (Some control) entry exit = tt
+perform-has (Some control) entry exit = (tt, tt)
 
 module _ (counts : Counts) (last : ℕ) where
   abbrev Such : Stmt → Type 0

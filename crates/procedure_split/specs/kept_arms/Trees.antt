@@ -1,38 +1,29 @@
 -- Trees and graphs whose choices have arms.
-use Rattle.std.specs.Prelude.{ℕ, ◌≡◌, List, [], ◌∷◌, Some, slice_get}
-use Rattle.control_flow_theory.specs.semantics.Graph.{Tree, tree, End, Pick, Jump, Return, Stop, Dead, Trees, no_more, more}
+use Rattle.std.specs.Prelude.{ℕ, ◌≡◌, List, Some, slice_get}
+use Rattle.control_flow_theory.specs.language.Language.{Picker}
+use Rattle.control_flow_theory.specs.semantics.Graph.{Tree, Trees, no_more, more}
+use Rattle.control_flow_theory.specs.graph_rules.EachTree.{EachTree, EachNode}
 use Rattle.control_flow_theory.specs.graph_rules.Reduced.{Node}
 use Rattle.branch_tree.specs.Graph.{seen_graph}
 use Rattle.branch_tree.specs.declared.graph.Graph as code
-use Rattle.procedure_split.specs.split_depth.Arms.{StmtsHaveArms}
+use Rattle.procedure_split.specs.split_depth.Arms.{ChoiceHasArms}
 
 -- there is a tree
 abbrev pub SomeTree : Trees → Type 0
 SomeTree no_more = ⊥
 SomeTree (more first others) = Unit {0}
 
--- each choice of its body has the arms that it has for certain, and each at an end has one
-abbrev mutual
-  pub TreeHasArms : Tree → Type 0
-  TreeHasArms (tree body end) = StmtsHaveArms body × EndHasArms end
+-- a choice at an end has a tree
+abbrev pub PickHasArms : Picker → Trees → Type 0
+PickHasArms picker trees = SomeTree trees
 
-  -- each choice in an end has its arms
-  pub EndHasArms : End → Type 0
-  EndHasArms (Pick picker arms) = SomeTree arms × TreesHaveArms arms
-  EndHasArms (Jump to) = Unit {0}
-  EndHasArms Return = Unit {0}
-  EndHasArms Stop = Unit {0}
-  EndHasArms Dead = Unit {0}
-
-  -- the same of these trees
-  pub TreesHaveArms : Trees → Type 0
-  TreesHaveArms no_more = Unit {0}
-  TreesHaveArms (more first others) = TreeHasArms first × TreesHaveArms others
+-- each choice of a tree's body has the arms that it has for certain, and each at an end has one
+abbrev pub TreeHasArms : Tree → Type 0
+TreeHasArms t = EachTree ChoiceHasArms PickHasArms t
 
 -- the same of the tree of each node
 abbrev pub NodesHaveArms : List Node → Type 0
-NodesHaveArms [] = Unit {0}
-NodesHaveArms (node ∷ nodes) = TreeHasArms node.tree × NodesHaveArms nodes
+NodesHaveArms nodes = EachNode ChoiceHasArms PickHasArms nodes
 
 -- each choice in these graphs has its arms
 abbrev pub GraphsHaveArms : List code.Graph → Type 0

@@ -9,14 +9,18 @@ use Rattle.branch_tree.specs.Graph.{seen_added, seen_graph}
 use Rattle.branch_tree.specs.Tree.{seen_body, seen_end, seen_tree}
 use Rattle.branch_tree.specs.declared.graph.Graph.{Graph}
 use Rattle.cob_base.specs.Limit.{max_nesting}
-use Rattle.region_rewrite.specs.Shaping.{first_tree, nesting_passed, result_nesting}
+use Rattle.region_rewrite.specs.Shaping.{IsSmall, first_tree, nesting_passed, result_nesting}
 use Rattle.region_rewrite.specs.declared.shaping.Shaped.{Shaped}
 use Rattle.procedure_split.specs.declared.shaped_ranges.shaping.Closed.{Closed}
 
--- jumps of each are to its nodes
-abbrev pub AllClosed : List Graph → Type 0
-AllClosed [] = Unit {0}
-AllClosed (graph ∷ graphs) = IsClosed (seen_graph graph) × AllClosed graphs
+-- the graph can be shaped: its jumps are to its nodes, and 32 bits number what the rules add
+abbrev pub IsReady : Graph → Type 0
+IsReady graph = IsClosed (seen_graph graph) × IsSmall (seen_graph graph)
+
+-- each of them can be
+abbrev pub AllReady : List Graph → Type 0
+AllReady [] = Unit {0}
+AllReady (graph ∷ graphs) = IsReady graph × AllReady graphs
 
 -- the tree has this body and end, and these items are added
 pub record IsClosedFrom (shaped : Shaped) (closed : Closed) : Type 0 where

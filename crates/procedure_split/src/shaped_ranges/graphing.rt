@@ -1,18 +1,17 @@
 //! The graphs of the ranges of a plan.
 
-ghost use Rattle.std.specs.Prelude.{[], ◌∷◌, ◌++◌, ◌≡◌, ◌<◌, ◌-◌, ◌*◌, ◌^◌, length, IfOk, IfSome, OnOk, MatchResult};
+ghost use Rattle.std.specs.Prelude.{[], ◌∷◌, ◌++◌, ◌≡◌, ◌≤◌, ◌*◌, length, IfOk, IfSome, OnOk, MatchResult};
+ghost use Rattle.cob_base.specs.Limit.{max_nodes};
 ghost use Rattle.cob_tree.specs.declared.program.Program.{Program};
 ghost use Rattle.control_flow_theory.specs.language.Control.{control_of};
 ghost use Rattle.control_flow_theory.specs.language.OwnItems.{NamesOwnItems};
-ghost use Rattle.control_flow_theory.specs.structuring.Closes.{IsClosed};
-ghost use Rattle.branch_tree.specs.Graph.{seen_graph};
 ghost use Rattle.program_facts.specs.completion.FlowFacts.{flow_facts_of};
 ghost use Rattle.cobol_theory.specs.cobol_parts.Named.{NamesOwnParagraphs};
 ghost use Rattle.pending_returns.specs.levels.Reach.{IsMarked};
 ghost use Rattle.flow_graph.specs.label_trees.Node.{IsWhole};
 ghost use Rattle.flow_graph.specs.Reaching.{IsRangeIn};
 ghost use Rattle.procedure_split.specs.shaped_ranges.Limit.{AreLowered, IsLoweringFault, nodes_passed};
-ghost use Rattle.procedure_split.specs.shaped_ranges.Shaping.{AllClosed};
+ghost use Rattle.procedure_split.specs.shaped_ranges.Shaping.{AllReady, IsReady};
 ghost use Rattle.procedure_split.specs.shaped_ranges.Graphing.{AreLoweredIn, AreRangesIn, AreRangesOf, IsCountedOn, IsGraphWithin, IsLoweringFaultIn, IsPastBy};
 
 use crate::plan::RangePlan;
@@ -53,9 +52,9 @@ fn graph_of(
     requires whole { IsWhole context.now spots.now }
     requires size { length reach.old.marks.items ≡ 3 * length spots.now }
     requires range { (program : Program) × IsRangeIn context.now spots.now range program }
-    requires small { most < 2 ^ 64 - 1 }
+    requires few { most ≤ max_nodes }
     ensures graph { IfOk result (IsGraphWithin context.now spots.now range most) }
-    ensures closed { IfOk result (λ found. IfSome found (λ graph. IsClosed (seen_graph graph))) }
+    ensures ready { IfOk result (λ found. IfSome found IsReady) }
     ensures marked { IsMarked reach.new.places.items reach.new.marks.items }
     ensures size { length reach.new.marks.items ≡ length reach.old.marks.items }
 {
@@ -138,7 +137,7 @@ fn graphs_of(
     ensures lowered { MatchResult result
         (λ graphs. AreLoweredIn context.now spots.now ranges.now graphs.items)
         (λ fault. IsLoweringFaultIn context.now spots.now ranges.now fault) }
-    ensures closed { IfOk result (λ graphs. AllClosed graphs.items) }
+    ensures ready { IfOk result (λ graphs. AllReady graphs.items) }
 {
     let mut graphs = Vec::new(alloc);
     let mut count = 0u64;
@@ -184,7 +183,7 @@ pub fn lower_ranges(
         (control_of program.now) plan.now.order graphs.items)
         (λ fault. IsLoweringFault (flow_facts_of program.now.files plan.now.returning)
         (control_of program.now) plan.now.order fault) }
-    ensures closed { IfOk result (λ graphs. AllClosed graphs.items) }
+    ensures ready { IfOk result (λ graphs. AllReady graphs.items) }
 {
     if program.places() >= PLACES {
         return Err(SplitFault::NoMemory);

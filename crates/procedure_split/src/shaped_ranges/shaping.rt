@@ -1,7 +1,7 @@
 //! What the graphs of ranges are shaped to.
 
 ghost use Rattle.std.specs.Prelude.{OnOk, MatchResult};
-ghost use Rattle.procedure_split.specs.shaped_ranges.Shaping.{AddsClosed, AllClosed, AllShaped, IsTooDeep};
+ghost use Rattle.procedure_split.specs.shaped_ranges.Shaping.{AddsClosed, AllReady, AllShaped, IsTooDeep};
 
 use branch_tree::{Added, Graph, Tree};
 use cob_base::NoMemory;
@@ -35,7 +35,7 @@ fn push_closed(made: &mut Vec<Closed>, shaped: Shaped) -> Result<(), NoMemory>
 /// What the graphs are shaped to, in their order. The errors are Limit, exactly where one of them
 /// nests deeper than 500 levels, and out of memory.
 pub fn shape_all(alloc: Global, graphs: Vec<Graph>) -> Result<Vec<Closed>, SplitFault>
-    requires { AllClosed graphs.items }
+    requires { AllReady graphs.items }
     ensures { MatchResult result (λ closed. AllShaped graphs.items closed.items)
         (λ fault. IsTooDeep graphs.items fault) }
 {

@@ -31,7 +31,7 @@ get-back [] x (suc number) range e = absurd (let k : ⊥ = cc in k)
 get-back (y ∷ xs) x zero range e = inl e
 get-back (y ∷ xs) x (suc number) range e = elim (get-back xs x number range e) [ inl there ↦ inl there | inr last ↦ inr (ap (λ (n : ℕ). suc n) last.0, last.1) ]
 
-get-below : (xs : List Range) (number : ℕ) (range : Range) → slice_get xs number ≡ Some range → number < length xs
+pub get-below : (xs : List Range) (number : ℕ) (range : Range) → slice_get xs number ≡ Some range → number < length xs
 get-below [] number range e = absurd (let k : ⊥ = cc in k)
 get-below (y ∷ xs) zero range e = omega arith
 get-below (y ∷ xs) (suc number) range e = (let less : number < length xs = get-below xs number range e in omega arith)
@@ -128,7 +128,7 @@ rising-ends list at ranges last le so_far = record {
 all-have : (list whole : List Range) → ((range : Range) → Has list range → Has whole range) → All (λ (range : Range). Has whole range) list
 all-have list whole has = λ k d lt. has (get_or list k d) (k, slice_get-get_or list k d lt)
 
-has-all : (P : Range → Type 0) (list : List Range) (number : ℕ) (range : Range) → All P list → slice_get list number ≡ Some range → P range
+pub has-all : (P : Range → Type 0) (list : List Range) (number : ℕ) (range : Range) → All P list → slice_get list number ≡ Some range → P range
 has-all P list number range all e =
     let lt : number < length list = get-below list number range e in
     let both : Some (get_or list number range) ≡ Some range = sym (slice_get-get_or list number range lt) ∙ e in
@@ -164,14 +164,14 @@ pair-is entry exit later_entry later_exit e = elim (or-true (nat_lt entry later_
   | inr both ↦ (let b = and-true (entry == later_entry) (nat_lt exit later_exit) both in inr (eqb-true entry later_entry b.0, ltb-true exit later_exit b.1))
 ]
 
-is-pair-less : (entry exit later_entry later_exit : ℕ) → entry < later_entry → pair_before entry exit later_entry later_exit ≡ true
+pub is-pair-less : (entry exit later_entry later_exit : ℕ) → entry < later_entry → pair_before entry exit later_entry later_exit ≡ true
 is-pair-less entry exit later_entry later_exit lt = ap (λ b. b || (entry == later_entry && nat_lt exit later_exit)) (lt-ltb entry later_entry lt)
 
 or-last : (a : Bool) → (a || true) ≡ true
 or-last true = refl
 or-last false = refl
 
-is-pair-same : (entry exit later_entry later_exit : ℕ) → entry ≡ later_entry → exit < later_exit → pair_before entry exit later_entry later_exit ≡ true
+pub is-pair-same : (entry exit later_entry later_exit : ℕ) → entry ≡ later_entry → exit < later_exit → pair_before entry exit later_entry later_exit ≡ true
 is-pair-same entry exit later_entry later_exit same lt =
     ap (λ b. nat_lt entry later_entry || (b && nat_lt exit later_exit)) (eq-eqb entry later_entry same) ∙ ap (λ b. nat_lt entry later_entry || b) (lt-ltb exit later_exit lt) ∙ or-last (nat_lt entry later_entry)
 

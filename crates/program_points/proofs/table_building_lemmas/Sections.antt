@@ -1,5 +1,5 @@
 -- Sections, and the paragraphs of a program.
-use Rattle.std.proofs.Common.{◌≡◌, ◌+◌, ◌≤◌, ℕ, zero, suc, true, false, if◌then◌else◌, List, [], ◌∷◌, drop, length, is_some, Option, Some, None, slice_get, refl, ap, sym, ◌∙◌, arith}
+use Rattle.std.proofs.Common.{◌≡◌, ◌+◌, ◌<◌, ◌≤◌, ℕ, zero, suc, true, false, if◌then◌else◌, List, [], ◌∷◌, drop, length, length-drop, is_some, Option, Some, None, slice_get, refl, ap, sym, ◌∙◌, arith}
 use Rattle.cob_tree.specs.declared.program.Paragraph as tree
 use Rattle.control_flow_theory.specs.language.Language.{Paragraph, Program, paragraph_at, unless_absent}
 use Rattle.control_flow_theory.specs.language.Control.{section_last, seen_paragraph, seen_paragraphs}
@@ -39,6 +39,22 @@ get-past (x ∷ xs) (suc index) le = get-past xs index (omega arith)
 -- the same by the number as it was added up
 pub last-past : (paragraphs : List tree.Paragraph) (number up : ℕ) → up ≡ number + 1 → length paragraphs ≤ up → number ≡ section_last number (drop (suc number) paragraphs)
 last-past paragraphs number up is le = last-none paragraphs number (get-past paragraphs (suc number) (omega (arith, is, le)))
+
+-- the last paragraph of a section is one of the paragraphs
+section-end : (number : ℕ) (others : List tree.Paragraph) → section_last number others ≤ number + length others
+section-end number [] = omega arith
+section-end number (next ∷ others) =
+    let k = section-end (suc number) others in
+    elim (is_some next.section) as (λ b. (if b then number else section_last (suc number) others) ≤ number + suc (length others)) [
+      | true ↦ omega arith
+      | false ↦ omega (arith, k)
+    ]
+
+pub last-inside : (paragraphs : List tree.Paragraph) (number last : ℕ) → number < length paragraphs → last ≡ section_last number (drop (suc number) paragraphs) → last < length paragraphs
+last-inside paragraphs number last lt is =
+    let k = section-end number (drop (suc number) paragraphs) in
+    let left = length-drop (suc number) paragraphs in
+    omega (arith, k, left, lt, is)
 
 -- the paragraph with this number, as control has it
 seen-at : (first : ℕ) (paragraphs : List tree.Paragraph) (number : ℕ) (paragraph : tree.Paragraph) → slice_get paragraphs number ≡ Some paragraph →

@@ -1,5 +1,5 @@
 -- How places are added for statements.
-use Rattle.std.specs.Prelude.{ℕ, suc, ◌≡◌, ◌<◌, ◌≤◌, ◌+◌, Bool, true, false, List, [], ◌∷◌, ◌++◌, map, length, Option, Some, None, option_map, slice_get, slice_set, ◌&&◌, not, is_some}
+use Rattle.std.specs.Prelude.{ℕ, suc, ◌≡◌, ◌<◌, ◌≤◌, ◌+◌, ◌^◌, Bool, true, false, List, [], ◌∷◌, ◌++◌, map, length, Option, Some, None, option_map, slice_get, slice_set, ◌&&◌, not, is_some}
 use Rattle.cob_tree.specs.declared.program.Range.{Range}
 use Rattle.cob_tree.specs.declared.stmt.Stmt as tree
 use Rattle.cob_tree.specs.declared.stmt.When.{When}
@@ -11,6 +11,7 @@ use Rattle.program_points.specs.declared.point_table.table.ProgramPoint.{Program
 use Rattle.program_points.specs.declared.point_table.table.Table.{Table}
 use Rattle.program_points.specs.point_table.Table.{Describes, AllBelow}
 use Rattle.program_points.specs.declared.numbering.build.Exits.{Exits}
+use Rattle.program_points.specs.declared.numbering.build.Here.{Here}
 use Rattle.program_points.specs.declared.numbering.kind.LoopStart.{LoopStart}
 use Rattle.program_points.specs.declared.numbering.kind.LoopStart.TheVariants.{Before, Again, After}
 use Rattle.program_points.specs.declared.point_table.table.ProgramPoint.TheVariants.{Goes, Chooses}
@@ -47,6 +48,11 @@ pub record HasParagraphs (program : Program) (count : ℕ) (places : List Progra
   -- and the next ones their ends
   pub ends : (paragraph : ℕ) → paragraph < count → points (count + paragraph) ≡ at paragraph []
   pub room : count + count ≤ length places
+
+-- the paragraph, and the last one of its section, are among so many, and 32 bits number the places
+-- of their starts and ends
+abbrev pub IsHere : ℕ → Here → Type 0
+IsHere count here = (here.number < count) × (here.last < count) × (count + count < 2 ^ 32)
 
 -- the place is at this point
 abbrev pub IsAt : List ProgramPoint → (ℕ → Point) → ℕ → Point → Type 0

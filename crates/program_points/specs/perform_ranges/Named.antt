@@ -98,6 +98,15 @@ main_range = record { entry = 0; exit = None }
 abbrev pub Has : List Range → Range → Type 0
 Has ranges range = (number : ℕ) × (slice_get ranges number ≡ Some range)
 
+-- the range is the last one once more, or after it
+abbrev pub IsNext : (last range : Range) → Type 0
+IsNext last range = (range ≡ last) ⊎ (is_before last range ≡ true)
+
+-- each of the ranges is the one before it once more, or after it
+abbrev pub IsInOrder : List Range → Type 0
+IsInOrder ranges = (number : ℕ) (range next : Range) → slice_get ranges number ≡ Some range →
+    slice_get ranges (suc number) ≡ Some next → IsNext range next
+
 -- the range is the last one once more, or was added after it
 abbrev pub IsBehind : (old new : List Range) → (last range : Range) → Type 0
 IsBehind old new last range = ((range ≡ last) × (new ≡ old))

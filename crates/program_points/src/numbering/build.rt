@@ -1,13 +1,13 @@
 //! Places, from the last statement of a list to its first.
 
-ghost use Rattle.std.specs.Prelude.{ℕ, Bool, ◌≡◌, ◌<◌, ◌≤◌, ◌+◌, ◌++◌, ◌∷◌, [], false, Some, None, length, slice_get, IfOk};
+ghost use Rattle.std.specs.Prelude.{ℕ, Bool, ◌≡◌, ◌<◌, ◌≤◌, ◌+◌, ◌^◌, ◌++◌, ◌∷◌, [], false, Some, None, length, slice_get, IfOk};
 ghost use Rattle.program_points.specs.declared.point_table.table.ProgramPoint.TheVariants.{Chooses, Goes};
 ghost use Rattle.control_flow_theory.specs.language.Language.{Chooser, also, none, Loop, Perform, Performed, Go, GoDepending, ExitParagraph, ExitSection};
 ghost use Rattle.control_flow_theory.specs.language.Language as language;
 ghost use Rattle.cob_tree.specs.declared.stmt.Arms.{out-Arms};
 ghost use Rattle.control_flow_theory.specs.language.Control.{control_in, loop_of, perform_of, seen, seen_stmts};
 ghost use Rattle.program_points.specs.numbering.Kind.{kind_in, never_first_of};
-ghost use Rattle.program_points.specs.numbering.Build.{Builds, BuildsBoth, BuildsBranches, IsClosed, after_at, inside, seen_branches, two_ways};
+ghost use Rattle.program_points.specs.numbering.Build.{Builds, BuildsBoth, BuildsBranches, IsClosed, IsHere, after_at, inside, seen_branches, two_ways};
 
 use crate::numbering::kind::{LoopStart, is_silent, kind_of};
 use crate::perform_ranges::place_of;
@@ -69,7 +69,7 @@ impl Exits {
 }
 
 impl Builder {
-    /// Adds a place.
+    /// Adds a place. Out of memory also where 32 bits don't number it: all places are counted.
     pub fn add(&mut self, place: ProgramPoint) -> Result<u32, NoMemory>
         ensures added { IfOk result (λ number. (number ≡ length self.old.places.items)
             × (self.new.places.items ≡ self.old.places.items ++ place ∷ [])) }
@@ -86,6 +86,7 @@ impl Builder {
     }
 
     /// The number of a range: it is found by binary search, and a range that isn't there is added.
+    /// Out of memory also where 32 bits don't number it.
     pub fn range_number(&mut self, range: Range) -> Result<u32, NoMemory>
         ensures number { IfOk result
             (λ number. slice_get self.new.ranges.items number ≡ Some range) }
@@ -116,17 +117,12 @@ impl Builder {
     }
 
     /// The place at a paragraph's end.
-    pub fn end_place(&self, paragraph: u32) -> Result<u32, NoMemory>
-        ensures { IfOk result (λ place. (place ≡ self.now.count + paragraph)
-            × (paragraph < self.now.count)) }
+    pub fn end_place(&self, paragraph: u32) -> u32
+        requires there { paragraph < self.now.count }
+        requires few { self.now.count + self.now.count < 2 ^ 32 }
+        ensures { result ≡ self.now.count + paragraph }
     {
-        if paragraph >= self.count {
-            return Err(NoMemory);
-        }
-        match self.count.checked_add(paragraph) {
-            Some(place) => Ok(place),
-            None => Err(NoMemory),
-        }
+        self.count + paragraph
     }
 
     /// Adds a place with two ways, the first of which is missing where `barred` says so.
@@ -313,6 +309,7 @@ impl Builder {
 
     /// The place of an EXIT PARAGRAPH.
     pub fn build_exit_paragraph(&mut self, here: Here, exits: Exits) -> Result<u32, NoMemory>
+        requires { IsHere self.old.count here }
         ensures builds { IfOk result
             (λ begin. (never_first : Chooser → Bool) → Builds never_first self.old.count here.number
             self.old.places.items self.new.places.items self.old.ranges.items self.new.ranges.items
@@ -320,12 +317,13 @@ impl Builder {
         ensures count { self.new.count ≡ self.old.count }
         ensures longer { length self.old.places.items ≤ length self.new.places.items }
     {
-        let end = self.end_place(here.number)?;
+        let end = self.end_place(here.number);
         self.add(ProgramPoint::Goes(end))
     }
 
     /// The place of an EXIT SECTION.
     pub fn build_exit_section(&mut self, here: Here, exits: Exits) -> Result<u32, NoMemory>
+        requires { IsHere self.old.count here }
         ensures builds { IfOk result
             (λ begin. (never_first : Chooser → Bool) → Builds never_first self.old.count here.number
             self.old.places.items self.new.places.items self.old.ranges.items self.new.ranges.items
@@ -333,7 +331,7 @@ impl Builder {
         ensures count { self.new.count ≡ self.old.count }
         ensures longer { length self.old.places.items ≤ length self.new.places.items }
     {
-        let end = self.end_place(here.last)?;
+        let end = self.end_place(here.last);
         self.add(ProgramPoint::Goes(end))
     }
 
@@ -347,6 +345,7 @@ impl Builder {
         stmt: &Stmt,
         exits: Exits,
     ) -> Result<u32, NoMemory>
+        requires { IsHere self.old.count here }
         ensures builds { IfOk result
             (λ begin. Builds (never_first_of files.now) self.old.count here.number
             self.old.places.items self.new.places.items self.old.ranges.items self.new.ranges.items
@@ -418,6 +417,7 @@ impl Builder {
         stmts: &Items<Stmt>,
         exits: Exits,
     ) -> Result<u32, NoMemory>
+        requires { IsHere self.old.count here }
         ensures builds { IfOk result
             (λ begin. Builds (never_first_of files.now) self.old.count here.number
             self.old.places.items self.new.places.items self.old.ranges.items self.new.ranges.items
@@ -444,6 +444,7 @@ impl Builder {
         silent: bool,
         exits: Exits,
     ) -> Result<u32, NoMemory>
+        requires { IsHere self.old.count here }
         ensures builds { IfOk result
             (λ begin. BuildsBoth (never_first_of files.now) self.old.count here.number
             self.old.places.items self.new.places.items self.old.ranges.items self.new.ranges.items
@@ -482,6 +483,7 @@ impl Builder {
         whens: &Items<When>,
         exits: Exits,
     ) -> Result<Items<Option<u32>>, NoMemory>
+        requires { IsHere self.old.count here }
         ensures builds { IfOk result
             (λ ways. BuildsBranches (never_first_of files.now) self.old.count here.number
             self.old.places.items self.new.places.items self.old.ranges.items self.new.ranges.items
@@ -508,6 +510,7 @@ impl Builder {
         body: &Items<Stmt>,
         exits: Exits,
     ) -> Result<u32, NoMemory>
+        requires { IsHere self.old.count here }
         ensures builds { IfOk result
             (λ begin. Builds (never_first_of files.now) self.old.count here.number
             self.old.places.items self.new.places.items self.old.ranges.items self.new.ranges.items

@@ -1,7 +1,7 @@
 //! Ranges in their order, each once.
 
-ghost use Rattle.std.specs.Prelude.{◌≡◌, ◌≤◌, length, IfOk, OnOk};
-ghost use Rattle.program_points.specs.perform_ranges.Named.{is_before, IsBehind, IsRisingOf, AreRangesOf};
+ghost use Rattle.std.specs.Prelude.{◌≡◌, ◌∷◌, ◌≤◌, length, IfOk, OnOk};
+ghost use Rattle.program_points.specs.perform_ranges.Named.{is_before, main_range, IsBehind, IsInOrder, IsNext, IsRisingOf, AreRangesOf};
 
 use crate::perform_ranges::named::named_paragraphs;
 use cob_base::NoMemory;
@@ -41,25 +41,20 @@ pub fn place_of(ranges: &[Range], range: Range) -> usize
 }
 
 /// Adds a range after the last one, unless it is that one.
-///
-/// Err where memory runs out, and where the range belongs before the last one.
 fn add_behind(ranges: &mut Vec<Range>, last: Range, range: Range) -> Result<(), NoMemory>
+    requires { IsNext last range }
     ensures { OnOk result (IsBehind ranges.old.items ranges.new.items last range) }
 {
     if range == last {
         return Ok(());
     }
-    if !is_before(last, range) {
-        return Err(NoMemory);
-    }
     ranges.push(range)?;
     Ok(())
 }
 
-/// Main and the ranges, each once, where they are in order.
-///
-/// Err where memory runs out, and where they aren't in order.
+/// Main and the ranges, each once, in their order.
 pub fn rising_of(alloc: Global, sorted: &[Range]) -> Result<Vec<Range>, NoMemory>
+    requires { IsInOrder (main_range ∷ sorted.now) }
     ensures { IfOk result (λ ranges. IsRisingOf sorted.now ranges.items) }
 {
     let mut ranges = Vec::new(alloc);

@@ -1,6 +1,6 @@
 //! The paragraphs of a program, numbered from the last to the first.
 
-ghost use Rattle.std.specs.Prelude.{◌≡◌, ◌<◌, suc, drop, length, IfOk, OnOk};
+ghost use Rattle.std.specs.Prelude.{◌≡◌, ◌<◌, ◌+◌, ◌^◌, suc, drop, length, IfOk, OnOk};
 ghost use Rattle.control_flow_theory.specs.language.Control.{control_of, section_last, seen_paragraphs};
 ghost use Rattle.program_points.specs.numbering.Kind.{never_first_of};
 ghost use Rattle.program_points.specs.point_table.Table.{IsTidy};
@@ -39,6 +39,7 @@ pub fn build_paragraphs(
     paragraphs: &[Paragraph],
 ) -> Result<(), NoMemory>
     requires count { numbering.old.builder.count ≡ length paragraphs.now }
+    requires few { length paragraphs.now + length paragraphs.now < 2 ^ 32 }
     requires owners { length numbering.old.owners.items
         ≡ length numbering.old.builder.places.items }
     ensures builds { OnOk result (NumbersAll (never_first_of files.now)
@@ -68,8 +69,9 @@ pub fn build_paragraphs(
 
 /// The table of a program, with these ranges and no others.
 ///
-/// Err where memory runs out, where a PERFORM names none of the ranges, and where the program or
-/// one of the ranges names a paragraph that isn't there.
+/// Err where memory runs out, where 32 bits don't number the paragraphs, places or ranges, where a
+/// PERFORM names none of the ranges, and where the program or one of the ranges names a paragraph
+/// that isn't there.
 pub fn table_of(alloc: Global, program: &Program, ranges: Vec<Range>) -> Result<Table, NoMemory>
     ensures table { IfOk result (λ table. HasTable (never_first_of program.now.files)
         (control_of program.now) table) }
@@ -78,7 +80,8 @@ pub fn table_of(alloc: Global, program: &Program, ranges: Vec<Range>) -> Result<
     ensures starts { IfOk result (λ table. Counts (length program.now.paragraphs) table.starts) }
 {
     let count = program.paragraphs.len();
-    if count >= u32::MAX as usize {
+    // 32 bits number the places, of which each paragraph takes two.
+    if count > (u32::MAX / 2) as usize {
         return Err(NoMemory);
     }
     let known = ranges.len();

@@ -1,8 +1,9 @@
 //! A paragraph, and the place at its start.
 
-ghost use Rattle.std.specs.Prelude.{◌≡◌, ◌<◌, ◌≤◌, length, map, IfOk, OnOk};
+ghost use Rattle.std.specs.Prelude.{◌≡◌, ◌≤◌, length, map, IfOk, OnOk};
 ghost use Rattle.control_flow_theory.specs.language.Control.{seen_sentence};
 ghost use Rattle.program_points.specs.numbering.Kind.{never_first_of};
+ghost use Rattle.program_points.specs.numbering.Build.{IsHere};
 ghost use Rattle.program_points.specs.table_building.Numbering.{BuildsParagraph, Extends};
 
 use crate::numbering::Here;
@@ -51,7 +52,7 @@ pub fn build_paragraph(
     here: Here,
     sentences: &Items<Sentence>,
 ) -> Result<(), NoMemory>
-    requires number { here.number < numbering.old.builder.count }
+    requires here { IsHere numbering.old.builder.count here }
     requires owners { length numbering.old.owners.items
         ≡ length numbering.old.builder.places.items }
     ensures builds { OnOk result (BuildsParagraph (never_first_of files.now)

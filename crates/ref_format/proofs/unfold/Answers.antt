@@ -1,4 +1,4 @@
-use Rattle.std.proofs.Common.{◌≡◌, ◌∷◌, ℕ, ◌+◌, false, List, [], None, Ok, length, refl, sym, ap, ◌∙◌, arith}
+use Rattle.std.proofs.Common.{◌≡◌, ◌∷◌, ℕ, ◌+◌, false, List, [], None, length, refl, sym, ap, ◌∙◌, arith}
 use Rattle.std.proofs.lemmas.Result.{err_from_is_err_and}
 use Rattle.std.proofs.lemmas.Bool.Decides.{nat_tests}
 use Rattle.ref_format.specs.Line.{line_of}
@@ -19,7 +19,7 @@ loop-rest-init c =
     record {
       lines_left = omega arith;
       sound = record { open_at_end = made.literal ∙ ap literal_at_end (sym made.text); begins = λ _. made.text };
-      text = ap (λ last. text_behind false false 1 last joining.text.items bytes) made.last
+      text = ap (λ last. text_behind false false 1 last joining.text bytes) made.last
           ∙ ap (λ text. text_behind false false 1 None text bytes) made.text
           ∙ text_behind-all bytes;
     }
@@ -30,7 +30,7 @@ loop-rest-preserved c =
     let fits = before.invariant.lines_left in
     let shorter = c.first_line.ensures.shorter in
     let last = before.joining.last in
-    let text = before.joining.text.items in
+    let text = before.joining.text in
     let number : ℕ = before.number + 1 in
     let card = c.card_of_line-card.result in
     let no_fault = ap (λ l. fault_of last l (line_of number card)) (sym before.invariant.sound.open_at_end) ∙ none_of_ok (fault_of last before.joining.literal (line_of number card)) tt c.in_ok-add.field-0 c.in_ok-add.ensures.fault in
@@ -45,7 +45,7 @@ pub returns-in_err-add : goal.returns-in_err-add
 returns-in_err-add c =
     let before = c.loop-rest in
     let last = before.joining.last in
-    let text = before.joining.text.items in
+    let text = before.joining.text in
     let number : ℕ = before.number + 1 in
     let card = c.card_of_line-card.result in
     let p = err_from_is_err_and c.from_residual.result c.from_residual.ensures.1 in
@@ -61,7 +61,7 @@ loop-rest-preserved-then-drops c =
     let before = c.loop-rest in
     let fits = before.invariant.lines_left in
     let shorter = c.first_line.ensures.shorter in
-    let dropped = text_behind-dropped _ _ _ _ _ (before.number + 1) before.joining.last before.joining.text.items before.rest.now _ _ c.card_of_line-card.result c.first_line.ensures.first c.card_of_line-card.ensures c.drops.ensures.over c.drops.ensures.inside c.drops.ensures.answer c.if-drops.true in
+    let dropped = text_behind-dropped _ _ _ _ _ (before.number + 1) before.joining.last before.joining.text before.rest.now _ _ c.card_of_line-card.result c.first_line.ensures.first c.card_of_line-card.ensures c.drops.ensures.over c.drops.ensures.inside c.drops.ensures.answer c.if-drops.true in
     record {
       lines_left = omega (arith, fits, shorter);
       sound = before.invariant.sound;
@@ -73,6 +73,5 @@ returns c =
     let before = c.loop-rest in
     let joining = before.joining in
     let none : before.rest.now ≡ [] = nil_of_length before.rest.now (grind (arith, nat_tests, c.loop-rest-test.ensures)) in
-    sym before.invariant.text ∙ ap (λ rest. text_behind before.entries.over before.entries.inside (before.number + 1) joining.last joining.text.items rest) none
-    ∙ text_behind-none before.entries.over before.entries.inside (before.number + 1) joining.last joining.text.items
-    ∙ ap Ok (sym c.from_vec.ensures)
+    sym before.invariant.text ∙ ap (λ rest. text_behind before.entries.over before.entries.inside (before.number + 1) joining.last joining.text rest) none
+    ∙ text_behind-none before.entries.over before.entries.inside (before.number + 1) joining.last joining.text

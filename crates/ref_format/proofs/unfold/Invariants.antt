@@ -7,7 +7,7 @@ abbrev pub invariant-loop-rest : goal.invariant-loop-rest
 invariant-loop-rest l = record {
   lines_left : l.number + length l.rest ≤ length l.bytes;
   sound : IsSound l.joining;
-  text : text_behind l.entries.over l.entries.inside (l.number + 1) l.joining.last l.joining.text.items l.rest ≡ program_text l.bytes;
+  text : text_behind l.entries.over l.entries.inside (l.number + 1) l.joining.last l.joining.text l.rest ≡ program_text l.bytes;
 }
 
 abbrev pub decreases-loop-rest : goal.decreases-loop-rest

@@ -175,23 +175,6 @@ fn begun(scan: Scan, kind: &TokenKind, behind: &[Token], index: usize) -> Result
     }
 }
 
-fn turned(
-    scan: Scan,
-    may_head: bool,
-    kind: &TokenKind,
-    behind: &[Token],
-    index: usize,
-) -> Result<Scan, NoMemory>
-    requires { procedures.HasRoom scan }
-    ensures { Makes (procedures.turned may_head kind.now behind.now index scan) result }
-{
-    if may_head {
-        begun(scan, kind, behind, index)
-    } else {
-        Ok(scan)
-    }
-}
-
 fn start(alloc: Global) -> Scan
     ensures { result ≡ procedures.start }
 {
@@ -218,7 +201,9 @@ fn scanned(alloc: Global, tokens: &[Token], from: usize) -> Result<Scan, NoMemor
     let mut may_head = true;
     let mut index = from;
     'tokens: while let [token, behind @ ..] = rest {
-        scan = turned(scan, may_head, &token.kind, behind, index)?;
+        if may_head {
+            scan = begun(scan, &token.kind, behind, index)?;
+        }
         may_head = is_period(&token.kind);
         rest = behind;
         index += 1;

@@ -9,7 +9,9 @@ use Rattle.control_flow_theory.specs.graph_rules.Reduced.{Graph, tree_in, kind_a
 use Rattle.control_flow_theory.specs.structuring.Closes.{has_exits, exits_step, or_exits, any_step, reduced_by_all, dispatch_graph, dispatch_rest, IsClosed}
 use Rattle.control_flow_theory.proofs.main_theorem_lemmas.graphs.Choosing.{stmts_choose}
 use Rattle.control_flow_theory.proofs.graph_rules_lemmas.shapes.Reducing.{kind-before}
-use Rattle.control_flow_theory.proofs.main_theorem_lemmas.graphs.ChoicesKept.{NodesChoose, reduced-chooses, by-all-chooses, rest-chooses}
+use Rattle.control_flow_theory.proofs.structuring_lemmas.closing.InOrder.{reduced-kept, by-all-kept}
+use Rattle.control_flow_theory.proofs.structuring_lemmas.closing.SomeKept.{Stays, rules-lose-none, rest-some}
+use Rattle.control_flow_theory.proofs.main_theorem_lemmas.graphs.ChoicesKept.{Chooses, ArmsChoose, Picks, finds, NodesChoose}
 
 -- the second has all cells of the first, each of its kind
 abbrev pub HasCells : Graph → Graph → Type 0
@@ -66,17 +68,21 @@ module _ (cells : List Added) (body : Stmts) where
   pub reduced-leads : (most : ℕ) (graph : Graph) → IsClosed graph → Leads (reduced most graph) → Leads graph
   reduced-leads most graph closed leads = (
     λ cell kind is. leads.0 cell kind (reduced-cells most graph cell kind is),
-    λ cell arms h. leads.1 cell arms (reduced-chooses cell arms most graph closed h),
+    λ cell arms h.
+        (let kept = reduced-kept (Stays (Chooses cell arms) (ArmsChoose cell arms) (Picks cell arms) (finds cell arms)) (rules-lose-none (Chooses cell arms) (ArmsChoose cell arms) (Picks cell arms) (finds cell arms)) most graph (closed, h) in
+        leads.1 cell arms kept.1),
   )
 
   pub by-all-leads : (most : ℕ) (graph : Graph) → IsClosed graph → Leads (reduced_by_all most graph) → Leads graph
   by-all-leads most graph closed leads = (
     λ cell kind is. leads.0 cell kind (by-all-cells most graph cell kind is),
-    λ cell arms h. leads.1 cell arms (by-all-chooses cell arms most graph closed h),
+    λ cell arms h.
+        (let kept = by-all-kept (Stays (Chooses cell arms) (ArmsChoose cell arms) (Picks cell arms) (finds cell arms)) (rules-lose-none (Chooses cell arms) (ArmsChoose cell arms) (Picks cell arms) (finds cell arms)) most graph (closed, h) in
+        leads.1 cell arms kept.1),
   )
 
   pub rest-leads : (graph : Graph) → Leads (dispatch_rest graph) → Leads graph
   rest-leads graph leads = (
     λ cell kind is. leads.0 cell kind (rest-cells graph cell kind is),
-    λ cell arms h. leads.1 cell arms (rest-chooses cell arms graph h),
+    λ cell arms h. leads.1 cell arms (rest-some (Chooses cell arms) (ArmsChoose cell arms) (Picks cell arms) (finds cell arms) graph h),
   )

@@ -4,7 +4,8 @@ use Rattle.std.proofs.lemmas.Bool.Decides.{eqb_tells}
 use Rattle.control_flow_theory.specs.language.Language.{Picker, If, By, ByCell, Stmt, Do, Choose, Loop, Perform, Go, GoDepending, NextSentence, ExitParagraph, ExitSection, ExitPerform, StopRun, Stmts, none, also, Arms, done, given, missing, Body, Nested, Performed}
 use Rattle.control_flow_theory.specs.rendering.Rendering.{count_arms}
 use Rattle.control_flow_theory.specs.main_theorem.Chain.{or_first, picker_arms, stmt_arms, stmts_arms, arms_arms, body_arms}
-use Rattle.control_flow_theory.proofs.main_theorem_lemmas.graphs.OneCount.{PickEach, StmtEach, StmtsEach, ArmsEach, BodyEach}
+use Rattle.control_flow_theory.specs.language.Each.{EachStmt, EachStmts, EachArm, EachBody}
+use Rattle.control_flow_theory.proofs.main_theorem_lemmas.graphs.OneCount.{PickIs, ChoiceIs}
 
 -- A choice by the cell among so many arms stands in it.
 module _ (cell arms : ℕ) where
@@ -104,7 +105,7 @@ module _ (N : ℕ → ℕ) (cell arms : ℕ) where
   abbrev Same : ℕ → ℕ → Type 0
   Same c n = n ≡ N c
 
-  picker-first : (picker : Picker) (n : ℕ) → PickEach Same picker n → picker_arms cell picker n ≡ Some arms → arms ≡ N cell
+  picker-first : (picker : Picker) (n : ℕ) → PickIs Same picker n → picker_arms cell picker n ≡ Some arms → arms ≡ N cell
   picker-first (If test) n p e = absurd (let x : None ≡ Some arms = e in cc)
   picker-first (By chooser) n p e = absurd (let x : None ≡ Some arms = e in cc)
   picker-first (ByCell by) n p e = elim (eqb_tells by cell) [
@@ -112,7 +113,7 @@ module _ (N : ℕ → ℕ) (cell arms : ℕ) where
     | inr f ↦ absurd (let x : None ≡ Some arms = sym (ap (λ b. if b then Some n else None) f.0) ∙ e in cc)
   ]
 
-  picker-picks : (picker : Picker) (n : ℕ) → PickEach Same picker n → picks cell arms picker n ≡ true → arms ≡ N cell
+  picker-picks : (picker : Picker) (n : ℕ) → PickIs Same picker n → picks cell arms picker n ≡ true → arms ≡ N cell
   picker-picks (If test) n p e = absurd (let x : false ≡ true = e in cc)
   picker-picks (By chooser) n p e = absurd (let x : false ≡ true = e in cc)
   picker-picks (ByCell by) n p e = elim (eqb_tells by cell) [
@@ -124,13 +125,13 @@ module _ (N : ℕ → ℕ) (cell arms : ℕ) where
   ]
 
   mutual
-    stmt-first : (stmt : Stmt) → StmtEach Same stmt → stmt_arms cell stmt ≡ Some arms → arms ≡ N cell
+    stmt-first : (stmt : Stmt) → EachStmt (ChoiceIs Same) stmt → stmt_arms cell stmt ≡ Some arms → arms ≡ N cell
     stmt-first (Do act) = λ p e. absurd (let x : None ≡ Some arms = e in cc)
     stmt-first (Choose picker others) = λ p e. elim (first-or (picker_arms cell picker (count_arms others)) (arms_arms cell others) arms e) [
       | inl f ↦ picker-first picker (count_arms others) p.0 f
       | inr f ↦ arms-first others p.1 f
     ]
-    stmt-first (Loop control body) = λ p e. body-first body p e
+    stmt-first (Loop control body) = λ p e. body-first body p.1 e
     stmt-first (Perform entry exit) = λ p e. absurd (let x : None ≡ Some arms = e in cc)
     stmt-first (Go to) = λ p e. absurd (let x : None ≡ Some arms = e in cc)
     stmt-first (GoDepending to chooser) = λ p e. absurd (let x : None ≡ Some arms = e in cc)
@@ -140,27 +141,27 @@ module _ (N : ℕ → ℕ) (cell arms : ℕ) where
     stmt-first (ExitPerform cycle) = λ p e. absurd (let x : None ≡ Some arms = e in cc)
     stmt-first StopRun = λ p e. absurd (let x : None ≡ Some arms = e in cc)
 
-    stmts-first : (stmts : Stmts) → StmtsEach Same stmts → stmts_arms cell stmts ≡ Some arms → arms ≡ N cell
+    stmts-first : (stmts : Stmts) → EachStmts (ChoiceIs Same) stmts → stmts_arms cell stmts ≡ Some arms → arms ≡ N cell
     stmts-first none = λ p e. absurd (let x : None ≡ Some arms = e in cc)
     stmts-first (also stmt stmts) = λ p e. elim (first-or (stmt_arms cell stmt) (stmts_arms cell stmts) arms e) [ inl f ↦ stmt-first stmt p.0 f | inr f ↦ stmts-first stmts p.1 f ]
 
-    arms-first : (others : Arms) → ArmsEach Same others → arms_arms cell others ≡ Some arms → arms ≡ N cell
+    arms-first : (others : Arms) → EachArm (ChoiceIs Same) others → arms_arms cell others ≡ Some arms → arms ≡ N cell
     arms-first done = λ p e. absurd (let x : None ≡ Some arms = e in cc)
     arms-first (given arm others) = λ p e. elim (first-or (stmts_arms cell arm) (arms_arms cell others) arms e) [ inl f ↦ stmts-first arm p.0 f | inr f ↦ arms-first others p.1 f ]
     arms-first (missing others) = λ p e. arms-first others p e
 
-    body-first : (body : Body) → BodyEach Same body → body_arms cell body ≡ Some arms → arms ≡ N cell
+    body-first : (body : Body) → EachBody (ChoiceIs Same) body → body_arms cell body ≡ Some arms → arms ≡ N cell
     body-first (Nested stmts) = λ p e. stmts-first stmts p e
     body-first (Performed entry exit) = λ p e. absurd (let x : None ≡ Some arms = e in cc)
 
   mutual
-    stmt-picks : (stmt : Stmt) → StmtEach Same stmt → stmt_chooses cell arms stmt ≡ true → arms ≡ N cell
+    stmt-picks : (stmt : Stmt) → EachStmt (ChoiceIs Same) stmt → stmt_chooses cell arms stmt ≡ true → arms ≡ N cell
     stmt-picks (Do act) = λ p e. absurd (let x : false ≡ true = e in cc)
     stmt-picks (Choose picker others) = λ p e. elim (one-of-two (picks cell arms picker (count_arms others)) (arms_choose cell arms others) e) [
       | inl f ↦ picker-picks picker (count_arms others) p.0 f
       | inr f ↦ arms-picks others p.1 f
     ]
-    stmt-picks (Loop control body) = λ p e. body-picks body p e
+    stmt-picks (Loop control body) = λ p e. body-picks body p.1 e
     stmt-picks (Perform entry exit) = λ p e. absurd (let x : false ≡ true = e in cc)
     stmt-picks (Go to) = λ p e. absurd (let x : false ≡ true = e in cc)
     stmt-picks (GoDepending to chooser) = λ p e. absurd (let x : false ≡ true = e in cc)
@@ -170,21 +171,21 @@ module _ (N : ℕ → ℕ) (cell arms : ℕ) where
     stmt-picks (ExitPerform cycle) = λ p e. absurd (let x : false ≡ true = e in cc)
     stmt-picks StopRun = λ p e. absurd (let x : false ≡ true = e in cc)
 
-    stmts-picks : (stmts : Stmts) → StmtsEach Same stmts → stmts_choose cell arms stmts ≡ true → arms ≡ N cell
+    stmts-picks : (stmts : Stmts) → EachStmts (ChoiceIs Same) stmts → stmts_choose cell arms stmts ≡ true → arms ≡ N cell
     stmts-picks none = λ p e. absurd (let x : false ≡ true = e in cc)
     stmts-picks (also stmt stmts) = λ p e. elim (one-of-two (stmt_chooses cell arms stmt) (stmts_choose cell arms stmts) e) [ inl f ↦ stmt-picks stmt p.0 f | inr f ↦ stmts-picks stmts p.1 f ]
 
-    arms-picks : (others : Arms) → ArmsEach Same others → arms_choose cell arms others ≡ true → arms ≡ N cell
+    arms-picks : (others : Arms) → EachArm (ChoiceIs Same) others → arms_choose cell arms others ≡ true → arms ≡ N cell
     arms-picks done = λ p e. absurd (let x : false ≡ true = e in cc)
     arms-picks (given arm others) = λ p e. elim (one-of-two (stmts_choose cell arms arm) (arms_choose cell arms others) e) [ inl f ↦ stmts-picks arm p.0 f | inr f ↦ arms-picks others p.1 f ]
     arms-picks (missing others) = λ p e. arms-picks others p e
 
-    body-picks : (body : Body) → BodyEach Same body → body_chooses cell arms body ≡ true → arms ≡ N cell
+    body-picks : (body : Body) → EachBody (ChoiceIs Same) body → body_chooses cell arms body ≡ true → arms ≡ N cell
     body-picks (Nested stmts) = λ p e. stmts-picks stmts p e
     body-picks (Performed entry exit) = λ p e. absurd (let x : false ≡ true = e in cc)
 
 -- where all choices by one cell have equally many arms, the first has what any has
-pub first-is : (N : ℕ → ℕ) (cell arms : ℕ) (stmts : Stmts) → StmtsEach (λ c n. n ≡ N c) stmts → stmts_choose cell arms stmts ≡ true → stmts_arms cell stmts ≡ Some arms
+pub first-is : (N : ℕ → ℕ) (cell arms : ℕ) (stmts : Stmts) → EachStmts (ChoiceIs (λ c n. n ≡ N c)) stmts → stmts_choose cell arms stmts ≡ true → stmts_arms cell stmts ≡ Some arms
 first-is N cell arms stmts each h = elim (stmts_arms cell stmts) as (λ found. stmts_arms cell stmts ≡ found → found ≡ Some arms) [
   | None ↦ λ e. absurd (stmts-none cell arms stmts e h)
   | Some n ↦ λ e. ap Some (stmts-first N cell n stmts each e ∙ sym (stmts-picks N cell arms stmts each h))

@@ -20,8 +20,10 @@ use Rattle.control_flow_theory.proofs.structuring_lemmas.closing.Closes.{are-nod
 use Rattle.control_flow_theory.proofs.main_theorem_lemmas.graphs.LoweredGraphs.{graphs-closed}
 use Rattle.control_flow_theory.proofs.main_theorem_lemmas.graphs.LaterCalls.{plan-fits}
 use Rattle.control_flow_theory.proofs.main_theorem_lemmas.Chain.{at-procedure, entry-last}
-use Rattle.control_flow_theory.proofs.main_theorem_lemmas.graphs.ChoicesKept.{closed-chooses}
-use Rattle.control_flow_theory.proofs.main_theorem_lemmas.graphs.OneCount.{TreeEach, NodesEach, tree-none}
+use Rattle.control_flow_theory.proofs.structuring_lemmas.closing.SomeKept.{written-some}
+use Rattle.control_flow_theory.proofs.main_theorem_lemmas.graphs.ChoicesKept.{Chooses, ArmsChoose, Picks, finds}
+use Rattle.control_flow_theory.specs.graph_rules.EachTree.{EachTree, EachNode}
+use Rattle.control_flow_theory.proofs.main_theorem_lemmas.graphs.OneCount.{ChoiceIs, EndIs, tree-none}
 use Rattle.control_flow_theory.proofs.main_theorem_lemmas.graphs.OneCountKept.{first-of-closed}
 use Rattle.control_flow_theory.proofs.main_theorem_lemmas.StandKept.{TreeStands, EndStands, TreesStand, AllStand, followed-stands, at-stands, closed-stands}
 
@@ -107,9 +109,9 @@ module _ (naming : Naming) (kinds : Writable) (procedures : List Procedure) (ran
   body-stands (tree body Dead) last h = h
 
 module _ (Q : ℕ → ℕ → Type 0) (R W : ℕ → Type 0) (family : Family) (range : Range) (P : Label → Type 0) where
-  none-of : (nodes : List Node) → AreNodes family range P nodes → ((label : Label) → TreeNames R W (family.node range label)) → NodesEach Q nodes
+  none-of : (nodes : List Node) → AreNodes family range P nodes → ((label : Label) → TreeNames R W (family.node range label)) → EachNode (ChoiceIs Q) (EndIs Q) nodes
   none-of [] are names = tt
-  none-of (node ∷ nodes) are names = (subst (TreeEach Q) are.0 (tree-none Q R W (family.node range node.label) (names node.label)), none-of nodes are.2 names)
+  none-of (node ∷ nodes) are names = (subst (EachTree (ChoiceIs Q) (EndIs Q)) are.0 (tree-none Q R W (family.node range node.label) (names node.label)), none-of nodes are.2 names)
 
 module _ (naming : Naming) (kinds : Writable) (told : FlowFacts) (program : Program) (keep : Range → Label → Bool) (numbers : Range → ℕ → ℕ) (added : Range → List Added) (others : List Range)
     (all : EachCellServed kinds (Main ∷ others) (lowered_graphs told program keep numbers added)) (source : IsSource told program) (some : 0 < length program.paragraphs) (plan : IsNumberedPlan told program keep numbers added others)
@@ -143,7 +145,7 @@ module _ (naming : Naming) (kinds : Writable) (told : FlowFacts) (program : Prog
         (ordered-fits (family_of graphs) (Has (kinds_of graphs)) (MaySet (kinds_of graphs)) order (plan-fits told program keep numbers added others source some plan) r here label) (served r here label)
 
     -- no choice by a cell stands in the lowered nodes
-    none-choose : NodesEach (λ c n. ⊥) (graphs r).nodes
+    none-choose : EachNode (ChoiceIs (λ c n. ⊥)) (EndIs (λ c n. ⊥)) (graphs r).nodes
     none-choose =
         let labels = labels_of (graphs r).nodes in
         none-of (λ c n. ⊥) R W (family_of graphs) r (Numbered labels) (graphs r).nodes
@@ -161,7 +163,7 @@ module _ (naming : Naming) (kinds : Writable) (told : FlowFacts) (program : Prog
         let closed = closed_graph (graphs r) in
         let t = tree_in closed.nodes closed.entry in
         let whole = closed-stands naming kinds procedures r closed.added (body_of t) (size (graphs r).nodes) (all r here) (first-of-closed (graphs r) none-choose) (graphs r) (closed-at r here, omega arith)
-        (λ cell kind is. is, λ cell arms h. closed-chooses cell arms (graphs r) (closed-at r here) h) graph-stands in
+        (λ cell kind is. is, λ cell arms h. written-some (Chooses cell arms) (ArmsChoose cell arms) (Picks cell arms) (finds cell arms) (graphs r) (closed-at r here) h) graph-stands in
         body-stands naming kinds procedures r (Behind order r) R W behind-later t (entry-last graphs (graphs r) (closed-at r here))
         (at-stands naming kinds procedures r (closed_graph (graphs r)).nodes (closed_graph (graphs r)).entry whole)
 

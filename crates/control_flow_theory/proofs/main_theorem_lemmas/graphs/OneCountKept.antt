@@ -1,18 +1,20 @@
 -- All choices of a closed graph by one cell have equally many arms: each rule chooses by a new cell alone.
-use Rattle.std.proofs.Common.{◌≡◌, ℕ, zero, suc, ◌-◌, ◌*◌, ◌<◌, ◌≤◌, arith, true, false, if◌then◌else◌, ◌==◌, List, [], ◌∷◌, ◌++◌, Option, Some, None, refl, ap, sym, subst, inl, inr}
+use Rattle.std.proofs.Common.{◌≡◌, ℕ, suc, ◌<◌, ◌≤◌, arith, true, if◌then◌else◌, ◌==◌, List, [], ◌∷◌, ◌++◌, Option, Some, None, refl, ap, sym, subst, inl, inr}
 use Rattle.std.proofs.lemmas.Bool.Decides.{eqb_tells}
-use Rattle.control_flow_theory.specs.semantics.Doing.{is_above}
 use Rattle.control_flow_theory.specs.semantics.Graph.{Label, body_of}
 use Rattle.control_flow_theory.specs.lowering.WellFormed.{tree_count}
+use Rattle.control_flow_theory.specs.graph_rules.EachTree.{EachNode}
 use Rattle.control_flow_theory.specs.graph_rules.Families.{Added, Never, Flag, State, Exit}
 use Rattle.control_flow_theory.specs.graph_rules.Shapes.{Live, Targets, NoTarget, Only, Several, other_targets}
-use Rattle.control_flow_theory.specs.graph_rules.Reduced.{Graph, tree_in, count, join_graph, inlines, lowest, loops, Form, form_of, close_form, close_by, inline_step, loop_step, rule_step, stepped, size, reduced, shaped}
+use Rattle.control_flow_theory.specs.graph_rules.Reduced.{Node, Graph, tree_in, count, Form, form_of, close_form, close_by, close_graph}
 use Rattle.control_flow_theory.specs.structuring.Dispatches.{tree_returns, bare}
 use Rattle.control_flow_theory.specs.structuring.Targets.{targets_of}
-use Rattle.control_flow_theory.specs.structuring.Closes.{has_exits, exits_graph, exits_step, or_exits, any_step, reduced_by_all, dispatch_graph, dispatch_rest, closed_graph}
+use Rattle.control_flow_theory.specs.structuring.Closes.{exits_graph, dispatch_graph, closed_graph}
 use Rattle.control_flow_theory.specs.main_theorem.Chain.{stmts_arms}
 use Rattle.control_flow_theory.proofs.semantics_lemmas.Ranges.{eq-self}
-use Rattle.control_flow_theory.proofs.main_theorem_lemmas.graphs.OneCount.{NodesEach, join-graph-each, loop-step-each, exits-each, dispatch-each, at-each, body-each, nodes-turned}
+use Rattle.control_flow_theory.proofs.structuring_lemmas.closing.InOrder.{Kept, closed-kept}
+use Rattle.control_flow_theory.proofs.structuring_lemmas.closing.EachKept.{trees_of, join-graph-each, inline-graph-each, close-graph-each, exits-each, dispatch-each, at-each, body-each}
+use Rattle.control_flow_theory.proofs.main_theorem_lemmas.graphs.OneCount.{ChoiceIs, EndIs, bears, nodes-turned}
 use Rattle.control_flow_theory.proofs.main_theorem_lemmas.graphs.Choosing.{stmts_choose, first-is}
 
 more-cells : (kinds more : List Added) → count kinds ≤ count (kinds ++ more)
@@ -35,20 +37,15 @@ by-more label graph NoTarget = more-cells graph.added (Never ∷ [])
 by-more label graph (Only live) = form-more label live graph (form_of label live (tree_in graph.nodes label))
 by-more label graph Several = omega arith
 
-inline-more : (graph : Graph) (found : Option Label) → NoFewer graph (stepped graph (inline_step graph found))
-inline-more graph None = omega arith
-inline-more graph (Some label) = omega arith
-
-loop-more : (graph : Graph) (found : Option Label) → NoFewer graph (stepped graph (loop_step graph found))
-loop-more graph None = inline-more graph (lowest (inlines graph) graph.nodes)
-loop-more graph (Some label) = by-more label graph (other_targets label (tree_in graph.nodes label))
-
 -- each choice is by a cell below this number, and has the number of arms of its cell
 abbrev Counted : ℕ → (ℕ → ℕ) → ℕ → ℕ → Type 0
 Counted below number cell arms = (cell < below) × (arms ≡ number cell)
 
+abbrev Choices : (ℕ → ℕ → Type 0) → List Node → Type 0
+Choices P nodes = EachNode (ChoiceIs P) (EndIs P) nodes
+
 abbrev OneCount : Graph → Type 0
-OneCount graph = (number : ℕ → ℕ) × NodesEach (Counted (count graph.added) number) graph.nodes
+OneCount graph = (number : ℕ → ℕ) × Choices (Counted (count graph.added) number) graph.nodes
 
 -- with this number of arms at this cell
 abbrev with_number : (ℕ → ℕ) → ℕ → ℕ → ℕ → ℕ
@@ -67,16 +64,15 @@ older number cell arms below lt c n h =
 newest : (number : ℕ → ℕ) (cell arms below : ℕ) → cell < below → Counted below (with_number number cell arms) cell arms
 newest number cell arms below lt = (lt, sym (ap (λ b. if b then arms else number cell) (eq-self cell)))
 
-loop-counted : (graph : Graph) (found : Option Label) → OneCount graph → OneCount (stepped graph (loop_step graph found))
-loop-counted graph found h =
-    let next = stepped graph (loop_step graph found) in
-    let more = loop-more graph found in
+loop-counted : (graph : Graph) (label : Label) → OneCount graph → OneCount (close_graph label graph)
+loop-counted graph label h =
+    let next = close_graph label graph in
+    let more = by-more label graph (other_targets label (tree_in graph.nodes label)) in
     let old = Counted (count graph.added) h.0 in
-    (h.0, nodes-turned old (Counted (count next.added) h.0) (λ c n k. (let less = k.0 in (omega (arith, less, more), k.1))) next.nodes (loop-step-each old graph found h.1))
+    (h.0, nodes-turned old (Counted (count next.added) h.0) (λ c n k. (let less = k.0 in (omega (arith, less, more), k.1))) next.nodes (close-graph-each (ChoiceIs old) (EndIs old) (bears old) label graph h.1))
 
-exits-counted : (graph : Graph) (found : Option Label) → OneCount graph → OneCount (stepped graph (exits_step graph found))
-exits-counted graph None h = h
-exits-counted graph (Some label) h =
+exits-counted : (graph : Graph) (label : Label) → OneCount graph → OneCount (exits_graph label graph)
+exits-counted graph label h =
     let exit = count graph.added in
     let t = tree_in graph.nodes label in
     let arms = tree_count (bare (targets_of label t) (tree_returns t)) in
@@ -84,47 +80,36 @@ exits-counted graph (Some label) h =
     let one = one-more graph.added Exit in
     let lt : exit < count next.added = omega (arith, one) in
     let each = Counted (count next.added) (with_number h.0 exit arms) in
-    (with_number h.0 exit arms, join-graph-each each next (exits-each each label graph (newest h.0 exit arms (count next.added) lt) (nodes-turned (Counted exit h.0) each (older h.0 exit arms (count next.added) lt) graph.nodes h.1)))
-
-or-exits-counted : (graph : Graph) (next : Option Graph) → OneCount (stepped graph next) → OneCount graph → OneCount (stepped graph (or_exits graph next))
-or-exits-counted graph None k h = exits-counted graph (lowest (has_exits graph) graph.nodes) h
-or-exits-counted graph (Some next) k h = k
-
-reduced-counted : (most : ℕ) (graph : Graph) → OneCount graph → OneCount (reduced most graph)
-reduced-counted zero graph h = h
-reduced-counted (suc most) graph h = reduced-counted most (stepped graph (rule_step graph)) (loop-counted graph (lowest (loops graph) graph.nodes) h)
-
-by-all-counted : (most : ℕ) (graph : Graph) → OneCount graph → OneCount (reduced_by_all most graph)
-by-all-counted zero graph h = h
-by-all-counted (suc most) graph h = by-all-counted most (stepped graph (any_step graph)) (or-exits-counted graph (rule_step graph) (loop-counted graph (lowest (loops graph) graph.nodes) h) h)
+    (with_number h.0 exit arms, exits-each (ChoiceIs each) (EndIs each) (bears each) label graph (newest h.0 exit arms (count next.added) lt) (nodes-turned (Counted exit h.0) each (older h.0 exit arms (count next.added) lt) graph.nodes h.1))
 
 dispatch-counted : (graph : Graph) → OneCount graph → OneCount (dispatch_graph graph)
 dispatch-counted graph h =
     let state = count graph.added in
-    let arms = size graph.nodes in
+    let arms = tree_count (trees_of graph.nodes) in
     let next = dispatch_graph graph in
     let one = one-more graph.added State in
     let lt : state < count next.added = omega (arith, one) in
     let each = Counted (count next.added) (with_number h.0 state arms) in
-    (with_number h.0 state arms, dispatch-each each graph (newest h.0 state arms (count next.added) lt) (nodes-turned (Counted state h.0) each (older h.0 state arms (count next.added) lt) graph.nodes h.1))
+    (with_number h.0 state arms, dispatch-each (ChoiceIs each) (EndIs each) (bears each) graph (newest h.0 state arms (count next.added) lt) (nodes-turned (Counted state h.0) each (older h.0 state arms (count next.added) lt) graph.nodes h.1))
 
-rest-counted : (graph : Graph) → OneCount graph → OneCount (dispatch_rest graph)
-rest-counted graph h = elim (is_above (size graph.nodes - 1)) as (λ b. OneCount (if b then dispatch_graph graph else graph)) [ true ↦ dispatch-counted graph h | false ↦ h ]
-
-closed-counted : (graph : Graph) → OneCount graph → OneCount (closed_graph graph)
-closed-counted graph h =
-    let most = 3 * size graph.nodes in
-    rest-counted (reduced_by_all most (shaped graph)) (by-all-counted most (shaped graph) (reduced-counted most (join_graph graph) (h.0, join-graph-each (Counted (count graph.added) h.0) graph h.1)))
+rules-count : Kept OneCount
+rules-count = record {
+  joins = λ graph h. (let old = Counted (count graph.added) h.0 in (h.0, join-graph-each (ChoiceIs old) (EndIs old) (bears old) graph h.1));
+  inlines = λ graph label e h. (let old = Counted (count graph.added) h.0 in (h.0, inline-graph-each (ChoiceIs old) (EndIs old) (bears old) label graph h.1));
+  closes = λ graph label e h. loop-counted graph label h;
+  exits = λ graph label e h. exits-counted graph label h;
+  dispatches = λ graph e h. dispatch-counted graph h;
+}
 
 -- where a graph doesn't choose by cells, the first choice by a cell in what is written of the closed one has what any has
-pub first-of-closed : (graph : Graph) → NodesEach (λ c n. ⊥) graph.nodes → (cell arms : ℕ) → stmts_choose cell arms (body_of (tree_in (closed_graph graph).nodes (closed_graph graph).entry)) ≡ true → stmts_arms cell (body_of (tree_in (closed_graph graph).nodes (closed_graph graph).entry)) ≡ Some arms
+pub first-of-closed : (graph : Graph) → Choices (λ c n. ⊥) graph.nodes → (cell arms : ℕ) → stmts_choose cell arms (body_of (tree_in (closed_graph graph).nodes (closed_graph graph).entry)) ≡ true → stmts_arms cell (body_of (tree_in (closed_graph graph).nodes (closed_graph graph).entry)) ≡ Some arms
 first-of-closed graph never cell arms h =
     let zeros : ℕ → ℕ = λ c. 0 in
     let begins = nodes-turned (λ c n. ⊥) (Counted (count graph.added) zeros) (λ c n k. absurd k) graph.nodes never in
-    let counted = closed-counted graph (zeros, begins) in
+    let counted = closed-kept OneCount rules-count graph (zeros, begins) in
     let closed = closed_graph graph in
     let number = counted.0 in
     let each : ℕ → ℕ → Type 0 = λ c n. n ≡ number c in
     let all = nodes-turned (Counted (count closed.added) number) each (λ c n k. k.1) closed.nodes counted.1 in
     let t = tree_in closed.nodes closed.entry in
-    first-is number cell arms (body_of t) (body-each each t (at-each each closed.nodes closed.entry all)) h
+    first-is number cell arms (body_of t) (body-each (ChoiceIs each) (EndIs each) (bears each) t (at-each (ChoiceIs each) (EndIs each) (bears each) closed.nodes closed.entry all)) h

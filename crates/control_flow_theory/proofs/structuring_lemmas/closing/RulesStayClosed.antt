@@ -1,17 +1,17 @@
 -- A graph whose jumps are to its nodes stays one, whatever rule applies.
-use Rattle.std.proofs.Common.{◌≡◌, ◌≢◌, ℕ, zero, suc, ◌+◌, ◌-◌, ◌*◌, Bool, true, false, if◌then◌else◌, ◌==◌, List, [], ◌∷◌, Option, Some, None, refl, ap, sym, ◌∙◌, subst, arith, inl, inr}
+use Rattle.std.proofs.Common.{◌≡◌, ◌≢◌, ℕ, ◌+◌, Bool, true, false, if◌then◌else◌, ◌==◌, List, [], ◌∷◌, Option, Some, None, refl, ap, sym, ◌∙◌, subst, arith, inl, inr}
 use Rattle.std.proofs.lemmas.Bool.Decides.{eqb_tells}
 use Rattle.control_flow_theory.specs.language.Language.{Picker, Stmts}
-use Rattle.control_flow_theory.specs.semantics.Doing.{is_above}
 use Rattle.control_flow_theory.specs.semantics.Graph.{Label, Tree, tree, End, Pick, Jump, Return, Stop, Dead, Trees, no_more, more, body_of, end_of}
 use Rattle.control_flow_theory.specs.graph_rules.Families.{Added}
 use Rattle.control_flow_theory.specs.graph_rules.Shapes.{followed, Live, ToLabel, Back, end_at, Targets, NoTarget, Only, Several, same_live, both_targets, leaf_targets, arms_targets, join_by, joined, join_end, joined_arms, inlined, inline_end, inlined_arms, leaves_to, end_leaves_to, arms_leaves_to, other_targets, end_targets, other_arms_targets}
-use Rattle.control_flow_theory.specs.graph_rules.Reduced.{Node, Graph, tree_in, each_tree, without, with_tree, join_graph, inline_graph, all_leaves_to, inlines, Form, form_of, looped_graph, close_form, close_by, close_graph, lowest, inline_step, loop_step, loops, rule_step, stepped, reduced, shaped, size}
+use Rattle.control_flow_theory.specs.graph_rules.Reduced.{Node, Graph, tree_in, each_tree, without, with_tree, join_graph, inline_graph, all_leaves_to, inlines, Form, form_of, looped_graph, close_form, close_by, close_graph, lowest, rule_step, stepped, shaped}
 use Rattle.control_flow_theory.specs.structuring.Targets.{RisingLabels}
 use Rattle.control_flow_theory.specs.structuring.Dispatches.{LeavesEnd, LeavesTree, LeavesTrees, Numbered, labels_of, Rising}
-use Rattle.control_flow_theory.specs.structuring.Closes.{has_exits, exits_graph, exits_step, or_exits, any_step, reduced_by_all, dispatch_graph, closed_graph, AllNumbered, IsClosed}
+use Rattle.control_flow_theory.specs.structuring.Closes.{any_step, reduced_by_all, closed_graph, AllNumbered, IsClosed}
 use Rattle.control_flow_theory.proofs.structuring_lemmas.gathering.Targets.{numbered-here, numbered-there, numbered-cases}
 use Rattle.control_flow_theory.proofs.structuring_lemmas.closing.Closes.{AllAbove, rising-above}
+use Rattle.control_flow_theory.proofs.structuring_lemmas.closing.InOrder.{Kept, rule-step-kept, shaped-kept, any-step-kept, by-all-kept, closed-kept}
 use Rattle.control_flow_theory.proofs.structuring_lemmas.closing.StayClosed.{with-labels, by-labels, from-labels, with-numbered, tree-numbered, exits-closed, dispatch-closed}
 
 -- Targets that are such labels.
@@ -174,7 +174,7 @@ by-closed graph label NoTarget closed h = looped-closed graph label _ _ closed t
 by-closed graph label (Only live) closed h = form-closed graph label live (form_of label live (tree_in graph.nodes label)) closed h
 by-closed graph label Several closed h = closed
 
-loop-closed : (graph : Graph) (label : Label) → IsClosed graph → IsClosed (close_graph label graph)
+pub loop-closed : (graph : Graph) (label : Label) → IsClosed graph → IsClosed (close_graph label graph)
 loop-closed graph label closed =
     let labels = labels_of graph.nodes in
     by-closed graph label (other_targets label (tree_in graph.nodes label)) closed (other-are (Numbered labels) label (tree_in graph.nodes label) (tree-numbered labels label graph.nodes closed.jumps))
@@ -232,7 +232,7 @@ no-self graph label e =
       ] e)
     ]
 
-inline-closed : (graph : Graph) (label : Label) → inlines graph label ≡ true → IsClosed graph → IsClosed (inline_graph label graph)
+pub inline-closed : (graph : Graph) (label : Label) → inlines graph label ≡ true → IsClosed graph → IsClosed (inline_graph label graph)
 inline-closed graph label applies closed =
     let labels = labels_of graph.nodes in
     let rest = without label graph.nodes in
@@ -273,42 +273,27 @@ lowest-in applies (node ∷ nodes) label e =
       | false ↦ λ e. numbered-there node.label label (labels_of nodes) (next e)
     ] e
 
-inline-step-closed : (graph : Graph) (found : Option Label) → lowest (inlines graph) graph.nodes ≡ found → IsClosed graph → IsClosed (stepped graph (inline_step graph found))
-inline-step-closed graph None e closed = closed
-inline-step-closed graph (Some label) e closed = join-closed (inline_graph label graph) (inline-closed graph label (lowest-is (inlines graph) graph.nodes label e) closed)
-
-loop-step-closed : (graph : Graph) (found : Option Label) → IsClosed graph → IsClosed (stepped graph (loop_step graph found))
-loop-step-closed graph None closed = inline-step-closed graph (lowest (inlines graph) graph.nodes) refl closed
-loop-step-closed graph (Some label) closed = loop-closed graph label closed
+rules-stay-closed : Kept IsClosed
+rules-stay-closed = record {
+  joins = join-closed;
+  inlines = λ graph label e closed. inline-closed graph label (lowest-is (inlines graph) graph.nodes label e) closed;
+  closes = λ graph label e closed. loop-closed graph label closed;
+  exits = λ graph label e closed. exits-closed graph label closed;
+  dispatches = λ graph e closed. dispatch-closed graph;
+}
 
 pub rule-step-closed : (graph : Graph) → IsClosed graph → IsClosed (stepped graph (rule_step graph))
-rule-step-closed graph closed = loop-step-closed graph (lowest (loops graph) graph.nodes) closed
-
-reduced-closed : (most : ℕ) (graph : Graph) → IsClosed graph → IsClosed (reduced most graph)
-reduced-closed zero graph closed = closed
-reduced-closed (suc most) graph closed = reduced-closed most (stepped graph (rule_step graph)) (rule-step-closed graph closed)
+rule-step-closed = rule-step-kept IsClosed rules-stay-closed
 
 pub shaped-closed : (graph : Graph) → IsClosed graph → IsClosed (shaped graph)
-shaped-closed graph closed = reduced-closed (3 * size graph.nodes) (join_graph graph) (join-closed graph closed)
-
-exits-step-closed : (graph : Graph) (found : Option Label) → IsClosed graph → IsClosed (stepped graph (exits_step graph found))
-exits-step-closed graph None closed = closed
-exits-step-closed graph (Some label) closed = join-closed (exits_graph label graph) (exits-closed graph label closed)
+shaped-closed = shaped-kept IsClosed rules-stay-closed
 
 pub any-step-closed : (graph : Graph) → IsClosed graph → IsClosed (stepped graph (any_step graph))
-any-step-closed graph closed =
-    elim (rule_step graph) as (λ o. rule_step graph ≡ o → IsClosed (stepped graph (or_exits graph o))) [
-      | Some next ↦ λ e. subst (λ o. IsClosed (stepped graph o)) e (rule-step-closed graph closed)
-      | None ↦ λ e. exits-step-closed graph (lowest (has_exits graph) graph.nodes) closed
-    ] refl
+any-step-closed = any-step-kept IsClosed rules-stay-closed
 
 pub all-reduced-closed : (most : ℕ) (graph : Graph) → IsClosed graph → IsClosed (reduced_by_all most graph)
-all-reduced-closed zero graph closed = closed
-all-reduced-closed (suc most) graph closed = all-reduced-closed most (stepped graph (any_step graph)) (any-step-closed graph closed)
+all-reduced-closed = by-all-kept IsClosed rules-stay-closed
 
 -- all rules in their order
 pub closed-closed : (graph : Graph) → IsClosed graph → IsClosed (closed_graph graph)
-closed-closed graph closed =
-    let last = reduced_by_all (3 * size graph.nodes) (shaped graph) in
-    let k = all-reduced-closed (3 * size graph.nodes) (shaped graph) (shaped-closed graph closed) in
-    elim (is_above (size last.nodes - 1)) as (λ b. IsClosed (if b then dispatch_graph last else last)) [ true ↦ dispatch-closed last | false ↦ k ]
+closed-closed = closed-kept IsClosed rules-stay-closed

@@ -1,4 +1,4 @@
-use Rattle.procedure_split.proofs.kept_arms_lemmas.Graphs.{closed-has}
+use Rattle.procedure_split.proofs.kept_arms_lemmas.Rules.{closed-has}
 use Rattle.procedure_split.proofs.kept_arms.rules_keep_arms.Goals as goal
 
 pub returns : goal.returns

@@ -2,6 +2,7 @@ use Rattle.std.proofs.Common.{◌≡◌, Some, ap, sym, ◌∙◌, arith}
 use Rattle.control_flow_theory.specs.structuring.Closes.{reduced_by_all, any_step}
 use Rattle.region_rewrite.specs.Reducing.{graph_in}
 use Rattle.region_rewrite.proofs.StepRows.{took, kept, all_reduced_next, stays_all}
+use Rattle.region_rewrite.proofs.RoomRows.{any-room}
 use Rattle.region_rewrite.proofs.exiting.all_steps.Goals as goal
 
 pub loop-left-preserved : goal.loop-left-preserved
@@ -12,6 +13,11 @@ loop-left-preserved c =
     record {
       same = all_reduced_next c.loop-left.left g new c.loop-left-test.true one ∙ c.loop-left.invariant.same;
       holds = c.in_ok-any_step.ensures.holds;
+      room =
+          let more = any-room c.loop-left.state c.any_step.new.state one in
+          let was = c.loop-left.invariant.room in
+          let some = c.loop-left-test.true in
+          omega (arith, more, was, some);
     }
 
 pub returns-then-not-branch : goal.returns-then-not-branch
@@ -25,3 +31,9 @@ pub returns : goal.returns
 returns c =
     let last : 0 ≡ c.loop-left.left = omega arith in
     ap (λ n. reduced_by_all n (graph_in c.loop-left.state)) last ∙ c.loop-left.invariant.same
+
+pub any_step-requires-clause-room : goal.any_step-requires-clause-room
+any_step-requires-clause-room c =
+    let was = c.loop-left.invariant.room in
+    let some = c.loop-left-test.true in
+    omega (arith, was, some)

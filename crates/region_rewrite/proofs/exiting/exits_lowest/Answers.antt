@@ -6,7 +6,7 @@ use Rattle.region_rewrite.proofs.exiting.exits_lowest.Goals as goal
 pub exits_on-requires-clause-but : goal.exits_on-requires-clause-but
 exits_on-requires-clause-but c =
     let old = c.args.state.now in
-    exits_popped c.in-Some.label (graph_in old) old.loops old.inlines old.exits c.next.new.labels c.requires c.in-Some.ensures.2
+    exits_popped c.in-Some.label (graph_in old) old.loops old.inlines old.exits c.next.new.labels c.requires.holds c.in-Some.ensures.2
 
 pub returns-in-None-clause-step : goal.returns-in-None-clause-step
 returns-in-None-clause-step c = (exits_none (graph_in c.args.state.now) c.sound.ensures.rising c.in-None.ensures, refl)

@@ -1,4 +1,4 @@
-use Rattle.restructure_asks.proofs.LawLemmas.{due-comes, accepted-done, faulty-refused, refused-faulty, usage-comes, generated-comes}
+use Rattle.restructure_asks.proofs.LawLemmas.{due-comes, accepted-done, faulty-refused, refused-faulty, usage-comes, generated-comes, trial-comes}
 use Rattle.restructure_asks.proofs.laws.due_answer_comes.Goals as goal
 
 pub returns-clause-due : goal.returns-clause-due
@@ -9,6 +9,9 @@ returns-clause-usage c = usage-comes
 
 pub returns-clause-generated : goal.returns-clause-generated
 returns-clause-generated c = generated-comes
+
+pub returns-clause-tried : goal.returns-clause-tried
+returns-clause-tried c = trial-comes
 
 pub returns-clause-accepted : goal.returns-clause-accepted
 returns-clause-accepted c = accepted-done

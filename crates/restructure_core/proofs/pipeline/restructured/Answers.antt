@@ -4,8 +4,8 @@ use Rattle.restructure_core.proofs.Answering.{restructured_if}
 use Rattle.restructure_core.proofs.ReadWell.{read_flow}
 use Rattle.restructure_core.proofs.pipeline.restructured.Goals as goal
 
-pub restructure_program-done-requires-clause-flow : goal.restructure_program-done-requires-clause-flow
-restructure_program-done-requires-clause-flow c =
+pub restructure_program-requires-clause-flow : goal.restructure_program-requires-clause-flow
+restructure_program-requires-clause-flow c =
     let program = c.in_ok-program.program in
     read_flow c.args.bytes.now program c.in-Clear.summary c.in_ok-program.ensures.found
     (subst (λ found. IsFlowOf program found) c.in-Clear.is c.in_ok-trail.ensures)
@@ -13,5 +13,5 @@ restructure_program-done-requires-clause-flow c =
 pub returns-in-Clear-clause-done : goal.returns-in-Clear-clause-done
 returns-in-Clear-clause-done c =
     restructured_if c.results_read_back.ensures c.args.bytes.now c.in_ok-program.program
-    c.restructure_program-done.result
-    c.in_ok-program.ensures.found c.restructure_program-done.ensures
+    c.restructure_program.result
+    c.in_ok-program.ensures.found c.restructure_program.ensures

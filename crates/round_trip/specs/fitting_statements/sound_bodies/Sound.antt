@@ -1,8 +1,9 @@
 -- What is asked of bodies beside their parts: each VARYING begins with such a statement, and each
 -- choice by a cell has arms enough. That a part may be written doesn't tell it: a statement may
 -- stand alone, and not begin a VARYING, and a cell may choose among any arms.
-use Rattle.std.specs.Prelude.{ℕ, ◌≡◌, nat_le, Bool, true, List, [], ◌∷◌}
-use Rattle.control_flow_theory.specs.language.Language.{Simple, Act, Own, Set, Take, Lower, Picker, If, By, ByCell, Control, Times, Until, Varying, Stmt, Do, Choose, Loop, Perform, Go, GoDepending, NextSentence, ExitParagraph, ExitSection, ExitPerform, StopRun, Stmts, none, also, Arms, done, given, missing, Body, Nested, Performed, Paragraph}
+use Rattle.std.specs.Prelude.{ℕ, ◌≡◌, nat_le, Bool, true, List}
+use Rattle.control_flow_theory.specs.language.Each.{EachStmt, EachStmts, EachArm, EachBody, EachSentence, EachParagraph}
+use Rattle.control_flow_theory.specs.language.Language.{Simple, Act, Own, Set, Take, Lower, Picker, If, By, ByCell, Control, Times, Until, Varying, Stmt, Choose, Loop, Stmts, Arms, Body, Paragraph}
 use Rattle.control_flow_theory.specs.rendering.Rendering.{count_arms}
 
 -- there are two arms at least
@@ -29,43 +30,32 @@ module _ (begins : Simple → Bool) (enough : (cell arms : ℕ) → Bool) where
   PickerIsSound (By chooser) arms = Unit {0}
   PickerIsSound (ByCell cell) arms = enough cell arms ≡ true
 
-  abbrev mutual
-    -- a statement is so
-    pub StmtIsSound : Stmt → Type 0
-    StmtIsSound (Do act) = Unit {0}
-    StmtIsSound (Choose picker arms) = PickerIsSound picker (count_arms arms) × ArmsAreSound arms
-    StmtIsSound (Loop control body) = ControlIsSound control × BodyIsSound body
-    StmtIsSound (Perform entry exit) = Unit {0}
-    StmtIsSound (Go to) = Unit {0}
-    StmtIsSound (GoDepending to chooser) = Unit {0}
-    StmtIsSound NextSentence = Unit {0}
-    StmtIsSound ExitParagraph = Unit {0}
-    StmtIsSound (ExitSection last) = Unit {0}
-    StmtIsSound (ExitPerform cycle) = Unit {0}
-    StmtIsSound StopRun = Unit {0}
+  -- a statement is so, whatever is in it
+  abbrev pub IsSound : Stmt → Type 0
+  IsSound (Choose picker arms) = PickerIsSound picker (count_arms arms)
+  IsSound (Loop control body) = ControlIsSound control
+  IsSound stmt = Unit {0}
 
-    -- these statements are so
-    pub StmtsAreSound : Stmts → Type 0
-    StmtsAreSound none = Unit {0}
-    StmtsAreSound (also stmt stmts) = StmtIsSound stmt × StmtsAreSound stmts
+  -- a statement is so, and each in it
+  abbrev pub StmtIsSound : Stmt → Type 0
+  StmtIsSound stmt = EachStmt IsSound stmt
 
-    -- these arms are so
-    pub ArmsAreSound : Arms → Type 0
-    ArmsAreSound done = Unit {0}
-    ArmsAreSound (given arm others) = StmtsAreSound arm × ArmsAreSound others
-    ArmsAreSound (missing others) = ArmsAreSound others
+  -- these statements are so
+  abbrev pub StmtsAreSound : Stmts → Type 0
+  StmtsAreSound stmts = EachStmts IsSound stmts
 
-    -- a loop's body is so
-    pub BodyIsSound : Body → Type 0
-    BodyIsSound (Nested stmts) = StmtsAreSound stmts
-    BodyIsSound (Performed entry exit) = Unit {0}
+  -- these arms are so
+  abbrev pub ArmsAreSound : Arms → Type 0
+  ArmsAreSound arms = EachArm IsSound arms
+
+  -- a loop's body is so
+  abbrev pub BodyIsSound : Body → Type 0
+  BodyIsSound body = EachBody IsSound body
 
   -- each sentence of the paragraph is so
   abbrev pub ParagraphIsSound : Paragraph → Type 0
-  ParagraphIsSound [] = Unit {0}
-  ParagraphIsSound (sentence ∷ sentences) = StmtsAreSound sentence × ParagraphIsSound sentences
+  ParagraphIsSound paragraph = EachSentence IsSound paragraph
 
   -- these paragraphs are so
   abbrev pub ParagraphsAreSound : List Paragraph → Type 0
-  ParagraphsAreSound [] = Unit {0}
-  ParagraphsAreSound (paragraph ∷ others) = ParagraphIsSound paragraph × ParagraphsAreSound others
+  ParagraphsAreSound paragraphs = EachParagraph IsSound paragraphs

@@ -3,7 +3,7 @@ use Rattle.std.proofs.lemmas.List.{take_rest}
 use Rattle.std.specs.Prelude.{IfOk}
 use Rattle.cob_tree.specs.declared.program.Range.{Range}
 use Rattle.procedure_split.specs.shaped_ranges.Graphing.{IsCountedOn}
-use Rattle.procedure_split.proofs.shaped_ranges_lemmas.GraphRows.{at-index, closed-more, few-yet, past-limit, so-far-more}
+use Rattle.procedure_split.proofs.shaped_ranges_lemmas.GraphRows.{at-index, few-yet, past-limit, ready-more, so-far-more}
 use Rattle.procedure_split.proofs.shaped_ranges.graphing.graphs_of.Goals as goal
 
 pub overflow_sub-count : goal.overflow_sub-count
@@ -15,7 +15,7 @@ pub loop-at-preserved : goal.loop-at-preserved
 loop-at-preserved c =
     let was = c.loop-at.invariant in
     let graph = rw c.in-Ok-Some.field-0-is at c.in-Ok-Some.ensures.graph in
-    let is_closed = rw c.in-Ok-Some.field-0-is at c.in-Ok-Some.ensures.closed in
+    let is_ready = rw c.in-Ok-Some.field-0-is at c.in-Ok-Some.ensures.ready in
     record {
       so = so-far-more c.args.context.now c.args.spots.now c.args.ranges.now c.loop-at.at
           c.loop-at.graphs.items c.loop-at.count (c.loop-at.count + c.graph_size-count.result) _
@@ -23,8 +23,8 @@ loop-at-preserved c =
           (at-index c.args.ranges.now c.loop-at.at _ c.loop-at-test.true) graph.0 graph.1
           (ap (λ n. c.loop-at.count + n) c.graph_size-count.ensures)
           c.keep_graph.new.graphs.items c.in-Ok.ensures;
-      closed = closed-more c.loop-at.graphs.items c.keep_graph.new.graphs.items c.in-Ok-Some.graph
-          c.in-Ok.ensures was.closed is_closed;
+      ready = ready-more c.loop-at.graphs.items c.keep_graph.new.graphs.items c.in-Ok-Some.graph
+          c.in-Ok.ensures was.ready is_ready;
       marked = c.graph_of.ensures.marked;
       size = c.graph_of.ensures.size ∙ was.size;
     }

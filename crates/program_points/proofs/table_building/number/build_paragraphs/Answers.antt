@@ -3,7 +3,7 @@ use Rattle.std.proofs.lemmas.Option.{slice_get-get_or}
 use Rattle.control_flow_theory.specs.language.Control.{seen_paragraph, seen_paragraphs}
 use Rattle.program_points.specs.numbering.Kind.{never_first_of}
 use Rattle.program_points.proofs.table_building_lemmas.Paragraphs.{NumbersFrom, from-none, from-more}
-use Rattle.program_points.proofs.table_building_lemmas.Sections.{paragraph-at}
+use Rattle.program_points.proofs.table_building_lemmas.Sections.{last-inside, paragraph-at}
 use Rattle.program_points.proofs.table_building.number.build_paragraphs.Goals as goal
 
 pub loop-number-init : goal.loop-number-init
@@ -15,6 +15,17 @@ loop-number-init c =
       last = λ lt. absurd (omega (arith, lt, c.requires.count));
       builds = from-none (never_first_of c.args.files.now) (seen_paragraphs 0 c.args.paragraphs.now) old.builder.count old.builder.count old.builder.places.items old.builder.ranges.items old.owners.items refl;
     }
+
+pub build_paragraph-requires-clause-here : goal.build_paragraph-requires-clause-here
+build_paragraph-requires-clause-here c =
+    let ps = c.args.paragraphs.now in
+    let k : ℕ = c.loop-number.number - 1 in
+    let lt : k < length ps = omega (arith, c.loop-number-test.true, c.loop-number.auto.number, c.requires.count) in
+    let inside = last-inside ps k c.last_of-last.result lt c.last_of-last.ensures in
+    let same = c.loop-number.invariant.count in
+    let count = c.requires.count in
+    let few = c.requires.few in
+    (omega (arith, lt, same, count), omega (arith, inside, same, count), omega (arith, few, same, count))
 
 pub loop-number-preserved : goal.loop-number-preserved
 loop-number-preserved c =

@@ -14,5 +14,5 @@ returns-clause-builds c =
     let begin = c.in_ok-begin.begin in
     let lt : begin < length mid.places.items = omega (arith, c.if-begin-len.false, c.len.ensures) in
     build-paragraph (never_first_of c.args.files.now) old.builder.count old.builder.places.items mid.places.items _ old.builder.ranges.items mid.ranges.items mid.ranges.items old.owners.items c.own.new.owners.items (map (seen_sentence c.args.here.last) c.args.sentences.now) c.args.here.number begin c.in_ok-place.place
-    c.requires.number c.in_ok-begin.ensures.builds lt (omega (arith, c.if-begin-here.false))
+    c.requires.here.0 c.in_ok-begin.ensures.builds lt (omega (arith, c.if-begin-here.false))
     (slice_get_read mid.places.items (length mid.places.items) begin c.index.result.now refl lt c.index.ensures ∙ ap (λ (p : ProgramPoint). Some p) (sym c.in_ok-place.ensures)) c.requires.owners (let size : c.len-2.result ≡ length mid.places.items = omega (arith, c.len-2.ensures) in subst (λ n. Extends old.owners.items c.own.new.owners.items n c.args.here.number) size c.in_ok-own.ensures) refl refl

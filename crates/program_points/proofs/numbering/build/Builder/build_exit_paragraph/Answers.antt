@@ -9,7 +9,7 @@ use Rattle.program_points.proofs.numbering.build.Builder.build_exit_paragraph.Go
 pub returns-clause-builds : goal.returns-clause-builds
 returns-clause-builds c =
     let old = c.args.self.now in
-    if-added c.add.result old.places.items c.add.new.self.places.items (Goes c.in_ok-end.end) old.ranges.items c.add.new.self.ranges.items
+    if-added c.add.result old.places.items c.add.new.self.places.items (Goes c.end_place-end.result) old.ranges.items c.add.new.self.ranges.items
     (λ ps rs n. (never_first : Chooser → Bool) → Builds never_first old.count c.args.here.number old.places.items ps old.ranges.items rs (also ExitParagraph none) c.args.exits n)
-    (λ never_first. build-exit-paragraph never_first old.count c.args.here.number old.places.items old.ranges.items c.args.exits c.in_ok-end.end c.in_ok-end.ensures.0)
+    (λ never_first. build-exit-paragraph never_first old.count c.args.here.number old.places.items old.ranges.items c.args.exits c.end_place-end.result c.end_place-end.ensures)
     c.add.ensures.ranges c.add.ensures.added

@@ -17,8 +17,8 @@ loop-at-init c =
     record {
       count = refl;
       longer = omega arith;
-      builds = subst (λ (ss : Paragraph). BuildsRest never old.count n old.places.items old.places.items old.ranges.items old.ranges.items ss c.in_ok-end.end) (sym (sentences-past c.args.here.last list (length list) (omega arith)))
-          (rest-none never old.count n old.places.items old.ranges.items c.in_ok-end.end c.in_ok-end.ensures.0);
+      builds = subst (λ (ss : Paragraph). BuildsRest never old.count n old.places.items old.places.items old.ranges.items old.ranges.items ss c.end_place-end.result) (sym (sentences-past c.args.here.last list (length list) (omega arith)))
+          (rest-none never old.count n old.places.items old.ranges.items c.end_place-end.result c.end_place-end.ensures);
     }
 
 pub loop-at-preserved : goal.loop-at-preserved
@@ -32,14 +32,14 @@ loop-at-preserved c =
     let closed = c.add.new.self in
     let new = c.build_stmts.new.self in
     let sentence = c.index-list-at.result in
-    let exits : Exits = record { after = c.in_ok-closing.closing; leave = c.loop-at.next; broken = c.in_ok-end.end; cycled = c.in_ok-end.end } in
+    let exits : Exits = record { after = c.in_ok-closing.closing; leave = c.loop-at.next; broken = c.end_place-end.result; cycled = c.end_place-end.result } in
     let built = subst (λ (s : Sentence). Builds never closed.count n closed.places.items new.places.items closed.ranges.items new.ranges.items (seen_stmts last s.stmts) exits c.in_ok-next.next) (sym c.index-list-at.is) c.in_ok-next.ensures.builds in
     record {
       count = c.in_ok-next.ensures.count ∙ c.in_ok-closing.ensures.count ∙ c.loop-at.invariant.count;
       longer = omega (arith, c.loop-at.invariant.longer, c.in_ok-closing.ensures.longer, c.in_ok-next.ensures.longer);
       builds = subst (λ (ss : Paragraph). BuildsRest never old.count n old.places.items new.places.items old.ranges.items new.ranges.items ss c.in_ok-next.next) (sym (sentences-down last list c.loop-at.at sentence (omega (arith, c.loop-at-test.true)) (omega (arith, c.loop-at.auto.at)) c.index-list-at.is))
-          (rest-also never old.count n closed.count old.places.items mid.places.items closed.places.items new.places.items old.ranges.items mid.ranges.items closed.ranges.items new.ranges.items (seen_stmts last sentence.stmts) (map (seen_sentence last) (drop c.loop-at.at list)) exits c.in_ok-end.end c.loop-at.next c.in_ok-closing.closing c.in_ok-next.next
-          c.in_ok-end.ensures.0 refl (c.in_ok-closing.ensures.count ∙ c.loop-at.invariant.count) c.in_ok-closing.ensures.added.0 c.in_ok-closing.ensures.added.1 c.in_ok-closing.ensures.ranges c.loop-at.invariant.builds built);
+          (rest-also never old.count n closed.count old.places.items mid.places.items closed.places.items new.places.items old.ranges.items mid.ranges.items closed.ranges.items new.ranges.items (seen_stmts last sentence.stmts) (map (seen_sentence last) (drop c.loop-at.at list)) exits c.end_place-end.result c.loop-at.next c.in_ok-closing.closing c.in_ok-next.next
+          c.end_place-end.ensures refl (c.in_ok-closing.ensures.count ∙ c.loop-at.invariant.count) c.in_ok-closing.ensures.added.0 c.in_ok-closing.ensures.added.1 c.in_ok-closing.ensures.ranges c.loop-at.invariant.builds built);
     }
 
 pub returns-clause-builds : goal.returns-clause-builds

@@ -1,0 +1,8 @@
+use Rattle.std.proofs.Common.{rules}
+use Rattle.cob_words.specs.Lists.{left_out_words}
+use Rattle.cob_words.proofs.ByRow.{words_in_row}
+use Rattle.cob_words.proofs.lists.left_out_row.Goals as goal
+
+pub returns : goal.returns
+unfolding left_out_words
+returns c = search (words_in_row, rules, c.requires)

@@ -1,0 +1,2 @@
+-- What each rule keeps.
+pub mod Laws

@@ -1,0 +1,9 @@
+       IDENTIFICATION DIVISION.
+       PROGRAM-ID. T.
+       DATA DIVISION.
+       WORKING-STORAGE SECTION.
+       01 T1.
+           05 E PIC 9 OCCURS 3.
+       01 I PIC 9 VALUE 4.
+       PROCEDURE DIVISION.
+       A. MOVE 1 TO E (I).

@@ -1,0 +1,8 @@
+       IDENTIFICATION DIVISION.
+       PROGRAM-ID. T.
+       PROCEDURE DIVISION.
+       M. PERFORM A THRU C. STOP RUN.
+       A. DISPLAY "A".
+       B. PERFORM D.
+       C. DISPLAY "C".
+       D. GO TO C.

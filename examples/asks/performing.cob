@@ -1,0 +1,8 @@
+       IDENTIFICATION DIVISION.
+       PROGRAM-ID. T.
+       PROCEDURE DIVISION.
+       A.
+           PERFORM B.
+           STOP RUN.
+       B.
+           DISPLAY "B".
