@@ -1,0 +1,2 @@
+-- What words come to, over what was made of them.
+pub mod AnsweredLemmas
